@@ -1,13 +1,14 @@
 //! Bytes that several owners share.
 ghost use Rattle.std.specs.Prelude.{◌≡◌, IfOk, length};
 
+use crate::copy::TryCopy;
 use crate::memory::Mem;
-use std::alloc::Global;
+use std::alloc::{AllocError, Global};
 use std::marker::Model;
 use std::sync::ArcSlice;
 
 /// Shared bytes that don't change, seen as their list. A copy shares the bytes.
-#[derive(Drop)]
+#[derive(Debug, Drop)]
 pub struct Blob {
     bytes: ArcSlice<u8>,
 }
@@ -51,13 +52,20 @@ impl Blob {
     {
         self.bytes.len()
     }
+}
 
-    /// Another owner of the same bytes.
-    pub fn copy(&self) -> Mem<Blob>
-        ensures { IfOk result (λ blob. blob ≡ self.now) }
-    {
+impl Clone for Blob {
+    ghost is_clone = { λ blob copied. copied ≡ blob };
+
+    fn clone(&self) -> Result<Blob, AllocError> {
         let bytes = self.bytes.clone()?;
         Ok(Blob { bytes })
+    }
+}
+
+impl TryCopy for Blob {
+    fn copy(&self) -> Mem<Blob> {
+        Ok(self.clone()?)
     }
 }
 

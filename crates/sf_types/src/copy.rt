@@ -1,0 +1,11 @@
+//! Copies that equal what they copy.
+ghost use Rattle.std.specs.Prelude.{◌≡◌, IfOk};
+
+use crate::memory::Mem;
+
+/// A type whose copy equals its source. A copy may want memory.
+pub trait TryCopy: Sized {
+    /// A value that equals this one.
+    fn copy(&self) -> Mem<Self>
+        ensures { IfOk result (λ copied. copied ≡ self.now) };
+}

@@ -1,0 +1,154 @@
+//! Names of rows, and names of locators and savepoints.
+ghost use Rattle.std.specs.Prelude.{◌≡◌, IsTrue, IfOk};
+ghost use Rattle.sf_types.specs.Names.{is_name_byte, is_name, name_of};
+ghost use Rattle.std.specs.List.{list_all};
+
+use crate::blob::Blob;
+use crate::copy::TryCopy;
+use crate::memory::Mem;
+use std::alloc::{AllocError, Global};
+use std::marker::Model;
+
+/// The most bytes of a row's name.
+pub const ROW_NAME_BYTES: usize = 64;
+
+/// The most bytes of a locator's or a savepoint's name.
+pub const LOCATOR_NAME_BYTES: usize = 16;
+
+/// A row's name: 1 to 64 of the bytes `A-Z a-z 0-9 _ . -`, seen as their list. A copy shares the bytes.
+#[derive(Debug, Drop)]
+pub struct Name {
+    text: Blob,
+}
+
+impl Model for Name {
+    ghost use Rattle.std.specs.Prelude.{ℕ, List, IsTrue};
+    ghost use Rattle.sf_types.specs.Names.{is_name};
+
+    ghost Value = { List ℕ };
+
+    ghost view = { λ n. n.text };
+
+    ghost invariant = { λ n. IsTrue (is_name 64 n.text) };
+
+    ghost inverse = { λ text. record { text = text } };
+}
+
+/// A name of a locator or of a savepoint: 1 to 16 of the bytes of a row's name.
+#[derive(Debug, Drop)]
+pub struct LocName {
+    text: Blob,
+}
+
+impl Model for LocName {
+    ghost use Rattle.std.specs.Prelude.{ℕ, List, IsTrue};
+    ghost use Rattle.sf_types.specs.Names.{is_name};
+
+    ghost Value = { List ℕ };
+
+    ghost view = { λ n. n.text };
+
+    ghost invariant = { λ n. IsTrue (is_name 16 n.text) };
+
+    ghost inverse = { λ text. record { text = text } };
+}
+
+// Whether a byte may stand in a name.
+fn is_name_byte(byte: u8) -> bool
+    ensures { result ≡ is_name_byte byte }
+{
+    matches!(byte, b'A'..=b'Z' | b'a'..=b'z' | b'0'..=b'9' | b'_' | b'.' | b'-')
+}
+
+// Whether each byte may stand in a name.
+fn has_name_bytes(text: &[u8]) -> bool
+    ensures { result ≡ list_all is_name_byte text.now }
+{
+    text.iter().all(|byte| is_name_byte(*byte))
+}
+
+// Whether a text is a name of at most `most` bytes.
+fn is_name(most: usize, text: &[u8]) -> bool
+    ensures { result ≡ is_name most text.now }
+{
+    let spelled = has_name_bytes(text);
+    1 <= text.len() && text.len() <= most && spelled
+}
+
+impl Name {
+    /// The name of these bytes. None exactly where they aren't a row's name.
+    pub fn new(alloc: Global, text: &[u8]) -> Mem<Option<Name>>
+        ensures { IfOk result (λ name. name ≡ name_of 64 text.now) }
+    {
+        if is_name(ROW_NAME_BYTES, text) {
+            Ok(Some(Name {
+                text: Blob::new(alloc, text)?,
+            }))
+        } else {
+            Ok(None)
+        }
+    }
+
+    /// The bytes of the name.
+    pub fn as_bytes(&self) -> &[u8]
+        ensures text { result.now ≡ self.now }
+        ensures name { IsTrue (is_name 64 self.now) }
+    {
+        self.text.as_bytes()
+    }
+}
+
+impl LocName {
+    /// The name of these bytes. None exactly where they aren't a locator's name.
+    pub fn new(alloc: Global, text: &[u8]) -> Mem<Option<LocName>>
+        ensures { IfOk result (λ name. name ≡ name_of 16 text.now) }
+    {
+        if is_name(LOCATOR_NAME_BYTES, text) {
+            Ok(Some(LocName {
+                text: Blob::new(alloc, text)?,
+            }))
+        } else {
+            Ok(None)
+        }
+    }
+
+    /// The bytes of the name.
+    pub fn as_bytes(&self) -> &[u8]
+        ensures text { result.now ≡ self.now }
+        ensures name { IsTrue (is_name 16 self.now) }
+    {
+        self.text.as_bytes()
+    }
+}
+
+impl Clone for Name {
+    ghost is_clone = { λ name copied. copied ≡ name };
+
+    fn clone(&self) -> Result<Name, AllocError> {
+        Ok(Name {
+            text: self.text.clone()?,
+        })
+    }
+}
+
+impl Clone for LocName {
+    ghost is_clone = { λ name copied. copied ≡ name };
+
+    fn clone(&self) -> Result<LocName, AllocError> {
+        Ok(LocName {
+            text: self.text.clone()?,
+        })
+    }
+}
+
+impl TryCopy for Name {
+    fn copy(&self) -> Mem<Name> {
+        Ok(self.clone()?)
+    }
+}
+
+impl TryCopy for LocName {
+    fn copy(&self) -> Mem<LocName> {
+        Ok(self.clone()?)
+    }
+}
