@@ -9,3 +9,8 @@ pub trait TryCopy: Sized {
     fn copy(&self) -> Mem<Self>
         ensures { IfOk result (λ copied. copied ≡ self.now) };
 }
+
+/// A type whose `clone` equals its source.
+pub trait Exact: Clone {
+    ghost exact: { (value copied : Self) → Self.is_clone value copied → copied ≡ value };
+}

@@ -56,6 +56,11 @@ impl<T> List<T> {
         self.items.as_slice()
     }
 
+    /// The allocator that the list was made with.
+    pub fn allocator(&self) -> Global {
+        *self.items.allocator()
+    }
+
     /// The number of items.
     pub fn len(&self) -> usize
         ensures { result ≡ length self.now }

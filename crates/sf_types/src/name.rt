@@ -4,7 +4,7 @@ ghost use Rattle.sf_types.specs.Names.{is_name_byte, is_name, name_of};
 ghost use Rattle.std.specs.List.{list_all};
 
 use crate::blob::Blob;
-use crate::copy::TryCopy;
+use crate::copy::{Exact, TryCopy};
 use crate::memory::Mem;
 use std::alloc::{AllocError, Global};
 use std::marker::Model;
@@ -16,7 +16,7 @@ pub const ROW_NAME_BYTES: usize = 64;
 pub const LOCATOR_NAME_BYTES: usize = 16;
 
 /// A row's name: 1 to 64 of the bytes `A-Z a-z 0-9 _ . -`, seen as their list. A copy shares the bytes.
-#[derive(Debug, Drop)]
+#[derive(Debug, PartialEq, Eq, PartialOrd, Ord, Drop)]
 pub struct Name {
     text: Blob,
 }
@@ -35,7 +35,7 @@ impl Model for Name {
 }
 
 /// A name of a locator or of a savepoint: 1 to 16 of the bytes of a row's name.
-#[derive(Debug, Drop)]
+#[derive(Debug, PartialEq, Eq, PartialOrd, Ord, Drop)]
 pub struct LocName {
     text: Blob,
 }
@@ -151,4 +151,12 @@ impl TryCopy for LocName {
     fn copy(&self) -> Mem<LocName> {
         Ok(self.clone()?)
     }
+}
+
+impl Exact for Name {
+    ghost exact = { λ value copied is. is };
+}
+
+impl Exact for LocName {
+    ghost exact = { λ value copied is. is };
 }
