@@ -1,5 +1,14 @@
 pub mod Births
+pub mod Ends
 pub mod Limits
-pub mod Names
+pub mod LocatorCalls
 pub mod NameMaps
+pub mod Names
+pub mod Refusals
+pub mod RowCalls
+pub mod Sessions
+pub mod Step
+pub mod Table
 pub mod Texts
+pub mod Values
+pub mod Versions

@@ -1,0 +1,46 @@
+-- The sessions of a table, their transactions and their locks.
+use Rattle.std.specs.Prelude.{ℕ, ◌+◌, ◌-◌, ◌==◌, Bool, true, false, not, ◌&&◌, nat_le, List, length, filter, slice_get, slice_set, Option, Some, None, unwrap_or, if◌then◌else◌}
+use Rattle.std.specs.Option.{option_map_or}
+use Rattle.sf_types.specs.Limits.{locators_per_session}
+use Rattle.sf_types.specs.NameMaps.{NameMap, get, has}
+use Rattle.sf_types.specs.Values.{Value}
+use Rattle.sf_types.specs.Table.{Locator, Session, Table, new_session}
+
+-- Sessions are numbered from 1.
+abbrev pub has_session : Table → ℕ → Bool
+has_session t s = nat_le 1 s && nat_le s (length t.sessions)
+
+abbrev pub session_of : Table → ℕ → Session
+session_of t s = unwrap_or (slice_get t.sessions (s - 1)) new_session
+
+-- The table with another part of one session, and all else as before.
+abbrev pub with_session : Table → ℕ → Session → Table
+with_session t s p = record t { sessions = slice_set t.sessions (s - 1) p }
+
+-- The session's part with a transaction open. Transactions are numbered from 1.
+abbrev pub in_transaction : Session → Session
+in_transaction p = record p { opened = if p.is_open then p.opened else p.opened + 1; is_open = true }
+
+-- The number of the open transaction, or 0.
+abbrev pub transaction : Session → ℕ
+transaction p = if p.is_open then p.opened else 0
+
+-- The row's value for a session: its working value where there is one, else what the row holds.
+abbrev pub row_value : Session → Option Value → List ℕ → Option Value
+row_value p current row = unwrap_or (get p.working row) current
+
+-- Whether a session holds the row's lock.
+abbrev pub holds : NameMap ℕ → ℕ → List ℕ → Bool
+holds locks s row = option_map_or (λ holder. holder == s) (get locks row) false
+
+-- Whether another session holds it.
+abbrev pub is_busy : NameMap ℕ → ℕ → List ℕ → Bool
+is_busy locks s row = option_map_or (λ holder. not (holder == s)) (get locks row) false
+
+-- The locks without those of a session.
+abbrev pub released : NameMap ℕ → ℕ → NameMap ℕ
+released locks s = filter (λ e. not (e.1 == s)) locks
+
+-- Whether a locator can't be set: the name is new, and the session has as many locators as it may have.
+abbrev pub lacks_room : Session → List ℕ → Bool
+lacks_room p to = not (has p.locators to) && nat_le locators_per_session (length p.locators)
