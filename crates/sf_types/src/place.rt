@@ -83,6 +83,13 @@ impl Model for Sum {
 }
 
 impl Sum {
+    /// The digest of these 32 bytes.
+    pub fn new(bytes: [u8; 32]) -> Sum
+        ensures { result ≡ bytes }
+    {
+        Sum { bytes }
+    }
+
     /// The 32 bytes.
     pub fn as_bytes(&self) -> &[u8]
         ensures { result.now ≡ self.now }

@@ -1,0 +1,4 @@
+pub use Rattle.sf_types.specs.Step
+pub use Rattle.sf_types.specs.Table
+pub use Rattle.sf_types.specs.Values
+pub mod Writable

@@ -1,0 +1,8 @@
+//! The table in a running form, over whole lists of marked bytes.
+#![tactic(auto)]
+
+mod locator;
+mod session;
+mod value;
+
+pub use value::Value;

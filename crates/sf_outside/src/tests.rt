@@ -1,0 +1,154 @@
+//! Each source and sink, called from outside through its trait.
+use crate::{Failed, MemSink, MemSource, Sink, Source, StdSink, StdSource, SureSink, SureSource};
+use std::io;
+use std::io::{ErrorKind, Read, Write};
+use std::process::Abort;
+use std::test::Fail;
+
+// Reads into a buffer of four bytes, and compares the answer and the whole buffer.
+fn expect_read<S: Source>(
+    rt: &impl Abort,
+    source: &mut S,
+    wanted: (Result<usize, Failed>, [u8; 4]),
+) {
+    let mut buffer = *b"....";
+    let answer = source.read(&mut buffer);
+    assert_eq!(rt; answer, wanted.0);
+    assert_eq!(rt; buffer, wanted.1);
+}
+
+// Writes a piece, and compares the answer.
+fn expect_write<K: Sink>(
+    rt: &impl Abort,
+    sink: &mut K,
+    piece: &[u8],
+    wanted: Result<usize, Failed>,
+) {
+    let answer = sink.write(piece);
+    assert_eq!(rt; answer, wanted);
+}
+
+#[test]
+fn a_memory_source_gives_pieces_and_fails_where_told(rt: HostRuntime) -> Result<(), Fail> {
+    let bytes = b"abcdefg".to_vec(rt.alloc())?;
+    let failing = [2, 3].to_vec(rt.alloc())?;
+    let mut source = MemSource::new(bytes, 3, failing);
+    expect_read(&rt, &mut source, (Ok(3), *b"abc."));
+    expect_read(&rt, &mut source, (Err(Failed), *b"...."));
+    expect_read(&rt, &mut source, (Err(Failed), *b"...."));
+    expect_read(&rt, &mut source, (Ok(3), *b"def."));
+    expect_read(&rt, &mut source, (Ok(1), *b"g..."));
+    expect_read(&rt, &mut source, (Ok(0), *b"...."));
+
+    let bytes = b"abcdef".to_vec(rt.alloc())?;
+    let mut source = MemSource::new(bytes, 9, Vec::new(rt.alloc()));
+    expect_read(&rt, &mut source, (Ok(4), *b"abcd"));
+    expect_read(&rt, &mut source, (Ok(2), *b"ef.."));
+    Ok(())
+}
+
+#[test]
+fn a_memory_sink_takes_pieces_and_fails_where_told(rt: HostRuntime) -> Result<(), Fail> {
+    let failing = [1, 4].to_vec(rt.alloc())?;
+    let Ok(mut sink) = MemSink::new(rt.alloc(), 5, 3, failing) else {
+        return Err("there is memory for five bytes".into());
+    };
+    expect_write(&rt, &mut sink, b"abcd", Err(Failed));
+    assert_eq!(rt; sink.bytes(), b"".as_slice());
+    expect_write(&rt, &mut sink, b"abcd", Ok(3));
+    expect_write(&rt, &mut sink, b"", Ok(0));
+    expect_write(&rt, &mut sink, b"d", Err(Failed));
+    assert_eq!(rt; sink.bytes(), b"abc".as_slice());
+    expect_write(&rt, &mut sink, b"def", Ok(3));
+    expect_write(&rt, &mut sink, b"g", Ok(1));
+    assert_eq!(rt; sink.bytes(), b"abcde".as_slice());
+    Ok(())
+}
+
+#[test]
+fn a_sure_source_and_a_sure_sink_never_fail(rt: HostRuntime) -> Result<(), Fail> {
+    let mut source = SureSource::new(b"abcdef".to_vec(rt.alloc())?);
+    expect_read(&rt, &mut source, (Ok(4), *b"abcd"));
+    expect_read(&rt, &mut source, (Ok(2), *b"ef.."));
+    expect_read(&rt, &mut source, (Ok(0), *b"...."));
+
+    let Ok(mut sink) = SureSink::new(rt.alloc(), 5) else {
+        return Err("there is memory for five bytes".into());
+    };
+    expect_write(&rt, &mut sink, b"abcd", Ok(4));
+    expect_write(&rt, &mut sink, b"", Ok(0));
+    assert_eq!(rt; sink.bytes(), b"abcd".as_slice());
+    expect_write(&rt, &mut sink, b"efgh", Ok(4));
+    assert_eq!(rt; sink.bytes(), b"abcde".as_slice());
+    Ok(())
+}
+
+// Gives two bytes a call, and fails at its second call.
+#[derive(Drop)]
+struct FailsOnce<'a> {
+    bytes: &'a [u8],
+    calls: u8,
+}
+
+impl Read for FailsOnce<'_> {
+    fn read(&mut self, buf: &mut [u8]) -> io::Result<usize> {
+        self.calls = self.calls.saturating_add(1);
+        if self.calls == 2 {
+            return Err(io::Error::from(ErrorKind::Other));
+        }
+        let room = buf.len().min(2);
+        self.bytes.read(&mut buf[..room])
+    }
+}
+
+#[test]
+fn a_standard_source_counts_faults_and_goes_on(rt: HostRuntime) {
+    let mut source = StdSource::new(b"abcdef".as_slice());
+    expect_read(&rt, &mut source, (Ok(4), *b"abcd"));
+    expect_read(&rt, &mut source, (Ok(2), *b"ef.."));
+    expect_read(&rt, &mut source, (Ok(0), *b"...."));
+    assert_eq!(rt; source.faults(), 0);
+
+    let reader = FailsOnce {
+        bytes: b"abc".as_slice(),
+        calls: 0,
+    };
+    let mut source = StdSource::new(reader);
+    expect_read(&rt, &mut source, (Ok(2), *b"ab.."));
+    assert_eq!(rt; source.faults(), 0);
+    expect_read(&rt, &mut source, (Err(Failed), *b"...."));
+    assert_eq!(rt; source.faults(), 1);
+    expect_read(&rt, &mut source, (Ok(1), *b"c..."));
+    assert_eq!(rt; source.faults(), 1);
+}
+
+// Takes nothing, and answers so.
+#[derive(Drop)]
+struct TakesNothing;
+
+impl Write for TakesNothing {
+    fn write(&mut self, _buf: &[u8]) -> io::Result<usize> {
+        Ok(0)
+    }
+
+    fn flush(&mut self) -> io::Result<()> {
+        Ok(())
+    }
+}
+
+#[test]
+fn a_standard_sink_counts_a_write_of_nothing(rt: HostRuntime) {
+    let mut out = Vec::new(rt.alloc());
+    let mut sink = StdSink::new(&mut out);
+    expect_write(&rt, &mut sink, b"abc", Ok(3));
+    expect_write(&rt, &mut sink, b"", Ok(0));
+    expect_write(&rt, &mut sink, b"de", Ok(2));
+    assert_eq!(rt; sink.faults(), 0);
+    assert_eq!(rt; out.as_slice(), b"abcde".as_slice());
+
+    let mut sink = StdSink::new(TakesNothing);
+    expect_write(&rt, &mut sink, b"", Ok(0));
+    assert_eq!(rt; sink.faults(), 0);
+    expect_write(&rt, &mut sink, b"abc", Err(Failed));
+    assert_eq!(rt; sink.faults(), 1);
+}
