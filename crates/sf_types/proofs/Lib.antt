@@ -1,1 +1,3 @@
+pub mod NameMapLemmas
 pub mod RisingBirths
+pub mod VersionLemmas

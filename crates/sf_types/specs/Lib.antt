@@ -6,6 +6,7 @@ pub mod NameMaps
 pub mod Names
 pub mod Refusals
 pub mod RowCalls
+pub mod Rows
 pub mod Sessions
 pub mod Step
 pub mod Table

@@ -7,7 +7,7 @@ use Rattle.sf_types.specs.declared.reply.Reply.TheVariants.{Done}
 use Rattle.sf_types.specs.NameMaps.{put, has}
 use Rattle.sf_types.specs.Values.{Value, empty_value}
 use Rattle.sf_types.specs.Table.{Locator, Session, Table}
-use Rattle.sf_types.specs.Sessions.{with_session, in_transaction, row_value, is_busy, lacks_room}
+use Rattle.sf_types.specs.Sessions.{with_session, in_transaction, row_value, is_busy, with_lock, lacks_room}
 use Rattle.sf_types.specs.Refusals.{first_of, refused_or}
 use Rattle.sf_types.specs.Versions.{current}
 
@@ -24,7 +24,7 @@ inserted p row = record (in_transaction p) { working = put p.working row (Some e
 
 abbrev pub insert : Table → ℕ → Session → List ℕ → Table × Reply
 insert t s p row = refused_or (insert_refusal t s p row) t
-    (record (with_session t s (inserted p row)) { locks = put t.locks row s }, Done)
+    (record (with_session t s (inserted p row)) { locks = with_lock t.locks s row }, Done)
 
 -- Lock: TooManyLocators, then Busy as above, then NoSuchRow where the row's value is absent.
 abbrev pub lock_refusal : Table → ℕ → Session → List ℕ → List ℕ → Option Fault
@@ -54,4 +54,4 @@ abbrev pub lock : Table → ℕ → Session → List ℕ → List ℕ → Table 
 lock t s p to row =
     let value = unwrap_or (row_value p (current t row) row) empty_value in
     refused_or (lock_refusal t s p to row) t
-      (record (with_session t s (locked p to row value)) { locks = put t.locks row s }, Done)
+      (record (with_session t s (locked p to row value)) { locks = with_lock t.locks s row }, Done)

@@ -2,7 +2,7 @@
 use Rattle.std.specs.Prelude.{ℕ, ◌+◌, ◌-◌, ◌==◌, Bool, true, false, not, ◌&&◌, nat_le, List, length, filter, slice_get, slice_set, Option, Some, None, unwrap_or, if◌then◌else◌}
 use Rattle.std.specs.Option.{option_map_or}
 use Rattle.sf_types.specs.Limits.{locators_per_session}
-use Rattle.sf_types.specs.NameMaps.{NameMap, get, has}
+use Rattle.sf_types.specs.NameMaps.{NameMap, get, has, put}
 use Rattle.sf_types.specs.Values.{Value}
 use Rattle.sf_types.specs.Table.{Locator, Session, Table, new_session}
 
@@ -36,6 +36,10 @@ holds locks s row = option_map_or (λ holder. holder == s) (get locks row) false
 -- Whether another session holds it.
 abbrev pub is_busy : NameMap ℕ → ℕ → List ℕ → Bool
 is_busy locks s row = option_map_or (λ holder. not (holder == s)) (get locks row) false
+
+-- The locks with one more of a session. A lock that it holds already stays.
+abbrev pub with_lock : NameMap ℕ → ℕ → List ℕ → NameMap ℕ
+with_lock locks s row = if holds locks s row then locks else put locks row s
 
 -- The locks without those of a session.
 abbrev pub released : NameMap ℕ → ℕ → NameMap ℕ

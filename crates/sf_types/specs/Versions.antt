@@ -35,7 +35,7 @@ current t name = or_absent (said t.commits name)
 -- One map over another: at each name the upper one counts.
 abbrev pub over : Rows → Rows → Rows
 over lower [] = lower
-over lower (e ∷ es) = over (put lower e.0 e.1) es
+over lower (e ∷ es) = put (over lower es) e.0 e.1
 
 -- All commits in one map, each over those before it.
 abbrev pub merged_over : Rows → List Rows → Rows

@@ -2,7 +2,8 @@
 ghost use Rattle.std.specs.Prelude.{◌≡◌, [], length, IsTrue, IfOk, OnOk, OnErr, None, is_some};
 ghost use Rattle.std.specs.Option.{option_copied};
 ghost use Rattle.std.specs.Ordering.{is_eq};
-ghost use Rattle.std.specs.Map.{lookup, remove_entry};
+ghost use Rattle.std.specs.List.Sorted.{IsStrictlySortedBy};
+ghost use Rattle.std.specs.Map.{lookup, keys_of, remove_entry};
 ghost use Rattle.std.specs.Map.Calls.{CallableOnEachPair, CalledAtPair, TakesPair, RetainsPairs};
 ghost use Rattle.std.specs.BTreeMap.{insert_entry};
 
@@ -55,8 +56,10 @@ impl<K: Ord, V> NameMap<K, V> {
 
     /// The map as std's, for a loop over its entries.
     pub fn as_map(&self) -> &BTreeMap<K, V>
-        ensures { result.now.entries ≡ self.now }
+        ensures entries { result.now.entries ≡ self.now }
+        ensures ordered { IsStrictlySortedBy K.cmp (keys_of self.now) }
     {
+        let _len = self.entries.len();
         &self.entries
     }
 }

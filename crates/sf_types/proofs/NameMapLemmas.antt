@@ -1,0 +1,99 @@
+-- Finite maps from names: what they have after a change, and when two are the same.
+use Rattle.std.proofs.Common.{◌≡◌, ℕ, Bool, true, false, ◌&&◌, cond, List, [], ◌∷◌, map, Option, Some, None, refl, sym, ap, subst, ◌∙◌}
+use Rattle.std.specs.Prelude.{T}
+use Rattle.std.specs.List.{filter_map, AllByRecursion}
+use Rattle.std.specs.List.Sorted.{IsStrictlySortedBy}
+use Rattle.std.specs.declared.cmp.Ordering.{Ordering}
+use Rattle.std.specs.declared.cmp.Ordering.TheVariants.{Less, Equal, Greater}
+use Rattle.std.specs.Ordering.{nat_cmp, is_eq, is_lt, match_ordering}
+use Rattle.std.specs.Cmp.{IsTotalOrder}
+use Rattle.std.specs.Cmp.Lexicographic.{nat_list_cmp_total}
+use Rattle.std.specs.Map.{lookup, keys_of, remove_entry}
+use Rattle.std.specs.BTreeMap.{insert_entry}
+use Rattle.std.specs.FinMap.{nat_cmp-IsAntisymmetric, slice_cmp-IsAntisymmetric}
+use Rattle.std.specs.FinMap.Entries as fin
+use Rattle.std.proofs.lemmas.Cmp.{tied_itself}
+use Rattle.sf_types.specs.Names.{name_cmp}
+use Rattle.sf_types.specs.NameMaps.{NameMap, is_name_of, get, put, without}
+
+-- std's words for maps and those of finite maps say the same
+insert_entry-is : {X : Type 0} (m : NameMap X) (k : List ℕ) (v : X) → put m k v ≡ fin.put name_cmp k v m
+insert_entry-is [] k v = refl
+insert_entry-is (e ∷ m) k v = ap (λ r. match_ordering (name_cmp k e.0) ((k, v) ∷ e ∷ m) ((e.0, v) ∷ m) (e ∷ r)) (insert_entry-is m k v)
+
+pub lookup-is : {X : Type 0} (m : NameMap X) (q : List ℕ) → get m q ≡ fin.find name_cmp q m
+lookup-is [] q = refl
+lookup-is (e ∷ m) q = ap (cond (is_name_of q e.0) (Some e.1)) (lookup-is m q)
+
+-- what a map has at a name after a value was put
+pub get-put : {X : Type 0} (m : NameMap X) (k : List ℕ) (v : X) (q : List ℕ) → get (put m k v) q ≡ cond (is_name_of q k) (Some v) (get m q)
+get-put m k v q =
+    ap (λ n. get n q) (insert_entry-is m k v)
+    ∙ lookup-is (fin.put name_cmp k v m) q
+    ∙ fin.find-put name_cmp nat_list_cmp_total q k v m
+    ∙ ap (cond (is_name_of q k) (Some v)) (sym (lookup-is m q))
+
+-- to put a value at a new name and to take it away again
+pub without-put : {X : Type 0} (m : NameMap X) (k : List ℕ) (v : X) → get m k ≡ None → without (put m k v) k ≡ m
+without-put [] k v none = rw (tied_itself nat_list_cmp_total k) refl
+without-put (e ∷ m) k v none =
+    elim (name_cmp k e.0) as (λ r. cond (is_eq r) (Some e.1) (get m k) ≡ None → name_cmp k e.0 ≡ r → without (match_ordering r ((k, v) ∷ e ∷ m) ((e.0, v) ∷ m) (e ∷ put m k v)) k ≡ e ∷ m) [
+      | Less ↦ λ h is. rw (tied_itself nat_list_cmp_total k) refl
+      | Equal ↦ λ h is. absurd cc
+      | Greater ↦ λ h is. rw is (ap (λ n. e ∷ n) (without-put m k v h))
+    ] none refl
+
+-- the names of a map rise
+unfoldable pub IsRisingMap : {X : Type 0} → NameMap X → Type 0
+IsRisingMap m = T (fin.is_sorted name_cmp m)
+
+pub rising_empty : (X : Type 0) → IsRisingMap {X = X} []
+unfolding IsRisingMap
+rising_empty X = tt
+
+pub rising-put : {X : Type 0} (m : NameMap X) (k : List ℕ) (v : X) → IsRisingMap m → IsRisingMap (put m k v)
+unfolding IsRisingMap
+rising-put m k v rising = rw insert_entry-is (fin.is_sorted-put name_cmp nat_list_cmp_total k v m rising)
+
+pub both : (a b : Bool) → T a → T b → T (a && b)
+both true b p q = q
+both false b p q = p
+
+pub first : (a b : Bool) → T (a && b) → T a
+first true b p = tt
+first false b p = p
+
+pub second : (a b : Bool) → T (a && b) → T b
+second true b p = p
+second false b p = absurd p
+
+pub less : (r : Ordering) → T (is_lt r) → r ≡ Less
+less Less p = refl
+less Equal p = absurd p
+less Greater p = absurd p
+
+equal : (r : Ordering) → is_eq r ≡ true → r ≡ Equal
+equal Less p = absurd cc
+equal Equal p = refl
+equal Greater p = absurd cc
+
+-- names that compare as one are one
+pub same_name : (a b : List ℕ) → is_name_of a b ≡ true → a ≡ b
+same_name a b is = slice_cmp-IsAntisymmetric nat_cmp-IsAntisymmetric a b (equal (name_cmp a b) is)
+
+below_from_all : {X : Type 0} (x : List ℕ) (m : NameMap X) → AllByRecursion (λ y. name_cmp x y ≡ Less) (keys_of m) → T (fin.below_all name_cmp x m)
+below_from_all x [] all = tt
+below_from_all x (e ∷ m) all = both (is_lt (name_cmp x e.0)) (fin.below_all name_cmp x m) (subst (λ r. T (is_lt r)) (sym all.0) tt) (below_from_all x m all.1)
+
+-- the entries of a tree of std rise
+pub rising_from_ordered : {X : Type 0} (m : NameMap X) → IsStrictlySortedBy name_cmp (keys_of m) → IsRisingMap m
+unfolding IsRisingMap IsStrictlySortedBy
+rising_from_ordered [] ordered = tt
+rising_from_ordered (e ∷ m) ordered = both (fin.below_all name_cmp e.0 m) (fin.is_sorted name_cmp m) (below_from_all e.0 m ordered.0) (rising_from_ordered m ordered.1)
+
+-- a name that is below all of a map isn't in it
+pub absent_below : {X : Type 0} (x : List ℕ) (m : NameMap X) → T (fin.below_all name_cmp x m) → get m x ≡ None
+absent_below x [] below = refl
+absent_below x (e ∷ m) below =
+    let lt : name_cmp x e.0 ≡ Less = less (name_cmp x e.0) (first (is_lt (name_cmp x e.0)) (fin.below_all name_cmp x m) below) in
+    rw lt (absent_below x m (second (is_lt (name_cmp x e.0)) (fin.below_all name_cmp x m) below))

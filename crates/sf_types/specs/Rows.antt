@@ -1,0 +1,19 @@
+-- What is told of a row that is present at the end.
+use Rattle.std.specs.Prelude.{ℕ, List, map}
+use Rattle.sha2.specs.Sha256.{sha256}
+use Rattle.sf_types.specs.declared.place.RowEnd.{RowEnd}
+use Rattle.sf_types.specs.NameMaps.{NameMap}
+use Rattle.sf_types.specs.Values.{Value, strip, size_of}
+use Rattle.sf_types.specs.Table.{Table}
+use Rattle.sf_types.specs.Versions.{present_rows}
+
+-- Its name, its length and the digest of its bytes.
+abbrev pub row_end : List ℕ × Value → RowEnd
+row_end (name, value) = record { name = name; len = size_of value; sum = sha256 (strip value) }
+
+-- The rows that are present, in byte order of names.
+abbrev pub row_ends : NameMap Value → List RowEnd
+row_ends rows = map row_end rows
+
+abbrev pub ends_of : Table → List RowEnd
+ends_of t = row_ends (present_rows t)
