@@ -1,4 +1,5 @@
 pub use Rattle.sf_types.specs.Step
 pub use Rattle.sf_types.specs.Table
 pub use Rattle.sf_types.specs.Values
+pub mod Sayings
 pub mod Writable

@@ -2,6 +2,7 @@
 #![tactic(auto)]
 
 mod locator;
+mod rows;
 mod session;
 mod value;
 

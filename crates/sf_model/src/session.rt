@@ -11,6 +11,7 @@ ghost use Rattle.sf_model.specs.Writable.{IsWritable};
 ghost use Rattle.sf_types.specs.Ends.{committed, ended};
 
 use crate::locator::Locator;
+use crate::rows::Rows;
 use crate::value::{OBJECT_BYTES, Value};
 use sf_types::{Fault, LocName, Mem, Name, NameMap, OutOfMemory, Reply, TryCopy};
 use std::alloc::Global;
@@ -22,9 +23,6 @@ const LOCATORS: usize = 256;
 
 /// The most bytes of a buffer.
 const BUFFER_BYTES: u64 = 32_767;
-
-/// What commits and transactions say of rows: a value, or absent.
-pub type Rows = NameMap<Name, Option<Value>>;
 
 /// The part of one session, seen as that of the table. It has no promise and no savepoint today.
 #[derive(Drop)]

@@ -1,0 +1,11 @@
+use Rattle.std.proofs.Common.{IsTrue, take}
+use Rattle.std.specs.List.{All}
+use Rattle.sf_types.specs.NameMaps.{has}
+use Rattle.sf_model.specs.Sayings.{SaysTheSame}
+use Rattle.sf_model.proofs.rows.make_places.Given as goal
+
+abbrev pub invariant-loop-name : goal.invariant-loop-name
+invariant-loop-name l = record {
+  same : SaysTheSame l.initial.rows l.rows;
+  there : All (λ change. IsTrue (has l.rows change.0)) (take l.name-index l.changes);
+}

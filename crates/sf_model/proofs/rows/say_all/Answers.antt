@@ -1,0 +1,16 @@
+use Rattle.std.proofs.Common.{◌≡◌, List, [], ◌∷◌, ◌++◌, Some, ◌∙◌}
+use Rattle.sf_types.specs.NameMaps.{get}
+use Rattle.std.proofs.lemmas.List.Elements.{All-pop}
+use Rattle.sf_model.proofs.Said.{IsThere, keeps-put, there-kept, said-pop}
+use Rattle.sf_model.proofs.rows.say_all.Goals as goal
+
+pub loop-name-preserved : goal.loop-name-preserved
+loop-name-preserved c =
+    let rows = c.loop-name.rows in
+    let rest = c.pop.new.self.items in
+    let popped : c.loop-name.left.items ≡ rest ++ (c.in-Some.name, c.in-Some.value) ∷ [] = c.in-Some.ensures.items in
+    let others = (All-pop (IsThere rows) c.loop-name.left.items rest (Some (c.in-Some.name, c.in-Some.value)) popped c.loop-name.invariant.there).0 in
+    record {
+      there = rw c.say.ensures (there-kept rows _ rest (keeps-put rows c.in-Some.name c.in-Some.value) others);
+      said = λ q. rw c.say.ensures (said-pop rows c.loop-name.left.items rest c.in-Some.name c.in-Some.value q popped ∙ c.loop-name.invariant.said q);
+    }
