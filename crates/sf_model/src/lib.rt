@@ -2,8 +2,11 @@
 #![tactic(auto)]
 
 mod locator;
+mod plain;
 mod rows;
 mod session;
 mod value;
 
+pub use locator::Locator;
+pub use plain::Plain;
 pub use value::Value;

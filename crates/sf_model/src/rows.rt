@@ -2,6 +2,9 @@
 ghost use Rattle.std.specs.Prelude.{◌≡◌, List, ℕ, Some, IsTrue, IfOk, OnOk};
 ghost use Rattle.std.specs.Option.{option_copied};
 ghost use Rattle.std.specs.List.{All};
+ghost use Rattle.std.specs.List.Sorted.{IsStrictlySortedBy};
+ghost use Rattle.std.specs.Map.{keys_of};
+ghost use Rattle.sf_types.specs.Names.{name_cmp};
 ghost use Rattle.sf_types.specs.NameMaps.{get, has, put};
 ghost use Rattle.sf_types.specs.Versions.{or_absent, later, present};
 ghost use Rattle.sf_types.specs.Rows.{row_ends};
@@ -97,7 +100,8 @@ fn say(rows: &mut Rows, name: Name, value: Option<Value>)
 
 /// What is told of each row that is present, in byte order of names.
 pub fn rows_present(alloc: Global, rows: &Rows) -> Mem<RowList>
-    ensures { IfOk result (λ ends. ends ≡ row_ends (present rows.now)) }
+    ensures ends { IfOk result (λ ends. ends ≡ row_ends (present rows.now)) }
+    ensures ordered { IsStrictlySortedBy name_cmp (keys_of rows.now) }
 {
     let mut ends = List::new(alloc);
     for (name, said) in rows.as_map() {

@@ -1,0 +1,30 @@
+-- Locks that are taken and given back.
+use Rattle.std.proofs.Common.{◌≡◌, ℕ, Bool, true, false, not, cond, eqb, List, Option, Some, None, refl, ap, ◌∙◌}
+use Rattle.std.specs.Option.{option_map_or}
+use Rattle.sf_types.specs.NameMaps.{NameMap, get, put, without}
+use Rattle.sf_types.specs.Sessions.{holds, is_busy, with_lock}
+use Rattle.sf_types.proofs.NameMapLemmas.{without-put}
+
+nobody : (o : Option ℕ) (s : ℕ) → option_map_or (λ holder. not (eqb holder s)) o false ≡ false → option_map_or (λ holder. eqb holder s) o false ≡ false → o ≡ None
+nobody None s busy held = refl
+nobody (Some h) s busy held = absurd (both (eqb h s) busy held)
+  where
+    both : (b : Bool) → not b ≡ false → b ≡ false → ⊥
+    both true busy held = cc
+    both false busy held = cc
+
+-- a lock that was new is given back
+pub without-with_lock : (locks : NameMap ℕ) (s : ℕ) (row : List ℕ) → is_busy locks s row ≡ false → holds locks s row ≡ false → without (with_lock locks s row) row ≡ locks
+without-with_lock locks s row busy held = rw held (without-put locks row s (nobody (get locks row) s busy held))
+
+-- one that was held already is kept
+pub with_lock-held : (locks : NameMap ℕ) (s : ℕ) (row : List ℕ) → holds locks s row ≡ true → with_lock locks s row ≡ locks
+with_lock-held locks s row held = rw held refl
+
+-- either way the locks are as before
+pub undone : (locks : NameMap ℕ) (s : ℕ) (row : List ℕ) (is_new : Bool) → is_busy locks s row ≡ false → is_new ≡ not (holds locks s row) → cond is_new (without (with_lock locks s row) row) (with_lock locks s row) ≡ locks
+undone locks s row is_new busy is = by_held (holds locks s row) refl
+  where
+    by_held : (b : Bool) → holds locks s row ≡ b → cond is_new (without (with_lock locks s row) row) (with_lock locks s row) ≡ locks
+    by_held true held = rw (is, held) refl
+    by_held false held = rw (is, held) (without-put locks row s (nobody (get locks row) s busy held))

@@ -1,0 +1,6 @@
+use Rattle.std.proofs.Common.{◌≡◌, replicate}
+use Rattle.sf_types.specs.Table.{new_session}
+use Rattle.sf_model.proofs.plain.Plain.new.Given as goal
+
+abbrev pub invariant-loop : goal.invariant-loop
+invariant-loop l = l.parts.items ≡ replicate l.counter new_session
