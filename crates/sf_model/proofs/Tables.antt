@@ -1,5 +1,5 @@
 -- Tables in which one session's part was changed.
-use Rattle.std.proofs.Common.{◌≡◌, ℕ, ◌+◌, ◌-◌, ◌≤◌, ◌<◌, Bool, true, false, not, ◌&&◌, cond, IsTrue, List, [], ◌∷◌, length, get_or, set, Option, Some, None, refl, sym, ap, subst, ◌∙◌, arith}
+use Rattle.std.proofs.Common.{◌≡◌, ℕ, ◌+◌, ◌-◌, ◌≤◌, ◌<◌, Bool, true, false, not, ◌&&◌, cond, IsTrue, List, [], ◌∷◌, ◌++◌, length, get_or, set, Option, Some, None, refl, sym, ap, subst, ◌∙◌, arith}
 use Rattle.std.specs.Prelude.{is_some, is_none, unwrap_or, nat_le, slice_get, slice_set}
 use Rattle.std.proofs.lemmas.Bool.Decides.{nat_tests}
 use Rattle.std.proofs.lemmas.Option.{slice_get-get_or}
@@ -8,10 +8,17 @@ use Rattle.sf_types.specs.declared.reply.Reply.{Reply}
 use Rattle.sf_types.specs.declared.reply.Reply.TheVariants as reply
 use Rattle.sf_types.specs.NameMaps.{NameMap}
 use Rattle.sf_types.specs.Values.{Value, empty_value}
-use Rattle.sf_types.specs.Table.{Session, Table, new_session}
-use Rattle.sf_types.specs.Sessions.{has_session, session_of, with_session, row_value, is_busy, with_lock, lacks_room}
+use Rattle.sf_types.specs.Table.{Locator, Rows, Savepoint, Session, Table, new_session}
+use Rattle.sf_types.specs.Sessions.{has_session, session_of, with_session, row_value, holds, is_busy, with_lock, released, lacks_room}
 use Rattle.sf_types.specs.RowCalls.{inserted, insert, locked, lock}
-use Rattle.sf_types.specs.Versions.{current}
+use Rattle.sf_types.specs.declared.reply.Fault.TheVariants as fault
+use Rattle.std.specs.Option.{option_map}
+use Rattle.sf_types.specs.LocatorCalls.{named, no_locator, locator, write_append}
+use Rattle.sf_types.specs.Ends.{committed, floor_after, with_commit, commit, ended, end}
+use Rattle.sf_types.specs.declared.call.Call.{Call}
+use Rattle.sf_types.specs.declared.history.Kind.TheVariants as kind
+use Rattle.sf_types.specs.Step.{put_into, append_step, IsLegal}
+use Rattle.sf_types.specs.Versions.{now, current}
 
 within : (s n : ℕ) → IsTrue (nat_le 1 s && nat_le s n) → s - 1 < n
 within s n has = grind (arith, nat_tests)
@@ -31,3 +38,66 @@ pub insert_done : (t : Table) (s : ℕ) (row : List ℕ) (locks : NameMap ℕ) (
     → locks ≡ with_lock t.locks s row → p ≡ inserted (session_of t s) row
     → ◌≡◌ {A = Table × Reply} (record (with_session t s p) { locks = locks }, reply.Done) (insert t s (session_of t s) row)
 insert_done t s row locks p busy there locks-is p-is = rw (locks-is, p-is, busy, there) refl
+
+pub lock_done : (t : Table) (s : ℕ) (to row : List ℕ) (value : Value) (locks : NameMap ℕ) (p : Session) → lacks_room (session_of t s) to ≡ false → is_busy t.locks s row ≡ false → row_value (session_of t s) (current t row) row ≡ Some value
+    → locks ≡ with_lock t.locks s row → p ≡ locked (session_of t s) to row value
+    → ◌≡◌ {A = Table × Reply} (record (with_session t s p) { locks = locks }, reply.Done) (lock t s (session_of t s) to row)
+lock_done t s to row value locks p lacks busy there locks-is p-is = rw (locks-is, p-is, lacks, busy, there) refl
+
+pub end_done : (t : Table) (s : ℕ) (locks : NameMap ℕ) (p : Session) → locks ≡ released t.locks s → p ≡ ended (session_of t s)
+    → ◌≡◌ {A = Table × Reply} (record (with_session t s p) { locks = locks }, reply.Ended) (end t s (session_of t s))
+end_done t s locks p locks-is p-is = rw (locks-is, p-is) refl
+
+-- a session's part as it was, and a reply, put into the table
+pub put_own : (t : Table) (s : ℕ) (r : Reply) (done : Session × Reply) → IsTrue (has_session t s) → ◌≡◌ {A = Session × Reply} (session_of t s, r) done → ◌≡◌ {A = Table × Reply} (t, r) (put_into t s done)
+put_own t s r done has is = ap (λ (u : Table). (u, r)) (sym (same_part t s has)) ∙ ap (put_into t s) is
+
+pub append_unknown : (p : Session) (is_held : Bool) (value : Option Value) (at buffer : List ℕ) → named p at ≡ None → ◌≡◌ {A = Session × Reply} (p, reply.Refused fault.UnknownLocator) (write_append p is_held value at buffer)
+append_unknown p is_held value at buffer none = rw none refl
+
+pub none_named : (o : Option Locator) → option_map (λ l. l.row) o ≡ None → o ≡ None
+none_named None is = refl
+none_named (Some l) is = absurd cc
+
+pub row_of_named : (o : Option Locator) (row : List ℕ) → option_map (λ l. l.row) o ≡ Some row → (unwrap_or o no_locator).row ≡ row
+row_of_named None row is = absurd cc
+row_of_named (Some l) row is = cc
+
+pub append_done : (t : Table) (s : ℕ) (at buffer row : List ℕ) (is_held : Bool) (value : Option Value) (p : Session) (r : Reply) → ◌≡◌ {A = Session × Reply} (p, r) (write_append (session_of t s) is_held value at buffer)
+    → is_held ≡ holds t.locks s row → value ≡ current t row → (locator (session_of t s) at).row ≡ row
+    → ◌≡◌ {A = Table × Reply} (with_session t s p, r) (append_step t s (session_of t s) at buffer)
+append_done t s at buffer row is_held value p r done held-is value-is row-is =
+    let q = session_of t s in
+    let there : ◌≡◌ {A = Session × Reply} (write_append q is_held value at buffer) (write_append q (holds t.locks s (locator q at).row) (current t (locator q at).row) at buffer) =
+      ap (λ b. write_append q b value at buffer) (held-is ∙ ap (holds t.locks s) (sym row-is))
+      ∙ ap (λ (v : Option Value). write_append q (holds t.locks s (locator q at).row) v at buffer) (value-is ∙ ap (current t) (sym row-is)) in
+    ap (put_into t s) (done ∙ there)
+
+-- a commit where no transaction is open and no savepoint is set
+pub commit_none : (t : Table) (s n : ℕ) → IsTrue (has_session t s) → (session_of t s).is_open ≡ false → (session_of t s).savepoints ≡ [] → n ≡ now t
+    → ◌≡◌ {A = Table × Reply} (t, reply.Committed n) (commit t s (session_of t s))
+commit_none t s n has closed none n-is =
+    let p = session_of t s in
+    let erased : record p { savepoints = [] } ≡ p = ap (λ (points : List Savepoint). record p { savepoints = points }) (sym none) in
+    let same : with_session t s (record p { savepoints = [] }) ≡ t = ap (with_session t s) erased ∙ same_part t s has in
+    let chosen : commit t s p ≡ (with_session t s (record p { savepoints = [] }), reply.Committed (now t)) =
+      ap (λ b. cond {A = Table × Reply} b (with_commit t s p, reply.Committed (now t + 1)) (with_session t s (record p { savepoints = [] }), reply.Committed (now t))) closed in
+    sym (chosen ∙ ap (λ (u : Table). (u, reply.Committed (now t))) same ∙ ap (λ k. (t, reply.Committed k)) (sym n-is))
+
+pub commit_done : (t : Table) (s n floor : ℕ) (commits : List Rows) (locks : NameMap ℕ) (p : Session) → (session_of t s).is_open ≡ true → commits ≡ t.commits ++ (session_of t s).working ∷ [] → n ≡ now t + 1 → floor ≡ floor_after t.options t.floor (now t + 1)
+    → locks ≡ released t.locks s → p ≡ committed (session_of t s)
+    → ◌≡◌ {A = Table × Reply} (record (with_session t s p) { commits = commits; floor = floor; locks = locks }, reply.Committed n) (commit t s (session_of t s))
+commit_done t s n floor commits locks p opened commits-is n-is floor-is locks-is p-is = rw (p-is, commits-is, n-is, floor-is, locks-is, opened) refl
+
+-- where no promise stands and no call is due, a call of a session that hasn't ended is legal, and nothing else is
+pub call_legal : (t : Table) (s : ℕ) (c : Call) → IsTrue (has_session t s) → (session_of t s).has_ended ≡ false → (session_of t s).promise ≡ None → IsLegal t s kind.Call c
+call_legal t s c has goes_on none = record { session = has; goes_on = goes_on; standing = rw none refl }
+
+pub promise_not_legal : (t : Table) (s : ℕ) (c : Call) → (session_of t s).promise ≡ None → IsLegal t s kind.Promise c → ⊥
+promise_not_legal t s c none legal = let due = rw none at legal.standing in cc
+
+pub cancel_not_legal : (t : Table) (s : ℕ) (c : Call) → (session_of t s).promise ≡ None → IsLegal t s kind.Cancel c → ⊥
+cancel_not_legal t s c none legal = rw none at legal.standing
+
+pub has_from : (s n : ℕ) → (s ≡ 0 → ⊥) → s ≤ n → IsTrue (nat_le 1 s && nat_le s n)
+has_from s n some le = grind (arith, nat_tests)

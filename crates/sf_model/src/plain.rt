@@ -1,6 +1,6 @@
 //! The plain table.
 ghost use Rattle.std.specs.Prelude.{◌≡◌, ◌+◌, ◌-◌, ◌<◌, ◌≤◌, ◌^◌, length, IsTrue, Some, true, false, is_some, IfOk, OnOk, OnErr, not, ◌↔◌, max, if◌then◌else◌};
-ghost use Rattle.std.specs.Option.{option_copied};
+ghost use Rattle.std.specs.Option.{option_copied, option_map};
 ghost use Rattle.sf_types.specs.Limits.{IsInRange};
 ghost use Rattle.sf_types.specs.Table.{opening};
 ghost use Rattle.sf_types.specs.Versions.{now, current};
@@ -8,8 +8,9 @@ ghost use Rattle.sf_types.specs.Rows.{ends_of};
 ghost use Rattle.sf_types.specs.Sessions.{has_session, session_of, row_value, holds, is_busy, with_lock, released};
 ghost use Rattle.sf_types.specs.NameMaps.{without};
 ghost use Rattle.sf_types.specs.RowCalls.{inserted, locked, insert, lock};
+ghost use Rattle.sf_types.specs.LocatorCalls.{named, length_call, read_call};
 ghost use Rattle.sf_types.specs.Ends.{floor_after, commit, end};
-ghost use Rattle.sf_types.specs.Step.{IsLegal, has_step, step};
+ghost use Rattle.sf_types.specs.Step.{put_into, append_step, IsLegal, has_step, step, applied};
 
 use crate::rows::{Rows, changes_of, make_places, rows_present, said_value, say_all};
 use crate::session::Session;
@@ -151,6 +152,17 @@ fn release_all(locks: &mut NameMap<Name, u16>, session: u16)
     locks.retain(|_, holder| *holder != session);
 }
 
+// The floor after the commit that makes the number of commits `count`.
+fn floor_after(options: &Options, floor: u64, count: u64) -> u64
+    ensures { result ≡ floor_after options.now floor count }
+{
+    if options.max {
+        floor
+    } else {
+        floor.max(count.saturating_sub(u64::from(options.retention)))
+    }
+}
+
 impl Plain {
     /// The opening table of a store with these options and 1 to 16 sessions.
     pub fn new(alloc: Global, options: Options, sessions: u16) -> Mem<Plain>
@@ -227,5 +239,172 @@ impl Plain {
         let part = &mut self.sessions[session as usize - 1];
         insert_into(&mut self.locks, part, session, row)?;
         Ok(Reply::Done)
+    }
+
+    // A session's part.
+    fn part(&self, session: u16) -> &Session
+        requires { IsTrue (has_session self.now session) }
+        ensures { result.now ≡ session_of self.now session }
+    {
+        &self.sessions[session as usize - 1]
+    }
+
+    // A copy of the row's value for a session.
+    fn copied_row_value(&self, session: u16, row: &Name) -> Mem<Option<Value>>
+        requires { IsTrue (has_session self.now session) }
+        ensures { IfOk result (λ value. value ≡ row_value (session_of self.now session) (current self.now row.now) row.now) }
+    {
+        match self.row_value(session, row) {
+            Some(value) => Ok(Some(value.copy()?)),
+            None => Ok(None),
+        }
+    }
+
+    fn lock(&mut self, session: u16, to: &LocName, row: &Name) -> Mem<Reply>
+        requires { IsTrue (has_session self.old session) }
+        ensures ok { IfOk result (λ reply. (self.new, reply) ≡ lock self.old session (session_of self.old session) to.now row.now) }
+        ensures err { OnErr result (self.new ≡ self.old) }
+    {
+        if self.part(session).lacks_room(to) {
+            return Ok(Reply::Refused(Fault::TooManyLocators));
+        }
+        if is_busy(&self.locks, session, row) {
+            return Ok(Reply::Refused(Fault::Busy));
+        }
+        let Some(value) = self.copied_row_value(session, row)? else {
+            return Ok(Reply::Refused(Fault::NoSuchRow));
+        };
+        let part = &mut self.sessions[session as usize - 1];
+        lock_into(&mut self.locks, part, session, to, row, value)?;
+        Ok(Reply::Done)
+    }
+
+    fn length(&self, session: u16, at: &LocName) -> Reply
+        requires { IsTrue (has_session self.now session) }
+        ensures { (self.now, result) ≡ put_into self.now session (length_call (session_of self.now session) at.now) }
+    {
+        self.part(session).length(at)
+    }
+
+    fn read(&self, session: u16, at: &LocName, amount: u64, offset: u64) -> Mem<Reply>
+        requires { IsTrue (has_session self.now session) }
+        ensures { IfOk result (λ reply. (self.now, reply) ≡ put_into self.now session (read_call (session_of self.now session) at.now amount offset)) }
+    {
+        let reply = self.part(session).read(at, amount, offset)?;
+        Ok(reply)
+    }
+
+    // The row of a locator, or none where there is no such locator.
+    fn row_of(&self, session: u16, at: &LocName) -> Mem<Option<Name>>
+        requires { IsTrue (has_session self.now session) }
+        ensures { IfOk result (λ row. row ≡ option_map (λ l. l.row) (named (session_of self.now session) at.now)) }
+    {
+        match self.part(session).locator(at) {
+            Some(locator) => Ok(Some(locator.row.copy()?)),
+            None => Ok(None),
+        }
+    }
+
+    fn write_append(&mut self, session: u16, at: &LocName, buffer: &[u8]) -> Mem<Reply>
+        requires { IsTrue (has_session self.old session) }
+        ensures ok { IfOk result (λ reply. (self.new, reply) ≡ append_step self.old session (session_of self.old session) at.now buffer.now) }
+        ensures err { OnErr result (self.new ≡ self.old) }
+    {
+        let Some(row) = self.row_of(session, at)? else {
+            return Ok(Reply::Refused(Fault::UnknownLocator));
+        };
+        let is_held = holds(&self.locks, session, &row);
+        let current = said_value(&self.current, &row);
+        let part = &mut self.sessions[session as usize - 1];
+        let reply = part.write_append(is_held, current, at, buffer)?;
+        Ok(reply)
+    }
+
+    fn end(&mut self, session: u16) -> Reply
+        requires { IsTrue (has_session self.old session) }
+        ensures { (self.new, result) ≡ end self.old session (session_of self.old session) }
+    {
+        let part = &mut self.sessions[session as usize - 1];
+        part.end();
+        release_all(&mut self.locks, session);
+        Reply::Ended
+    }
+
+    fn commit(&mut self, session: u16) -> Mem<Reply>
+        requires { IsTrue (has_session self.old session) }
+        ensures ok { IfOk result (λ reply. (self.new, reply) ≡ commit self.old session (session_of self.old session)) }
+        ensures err { OnErr result (self.new ≡ self.old) }
+    {
+        if !self.part(session).is_open() {
+            return Ok(Reply::Committed(self.now()));
+        }
+        let part = &mut self.sessions[session as usize - 1];
+        let changes = changes_of(self.alloc, part.working())?;
+        self.commits.reserve(1)?;
+        make_places(&mut self.current, &changes)?;
+        // From here on nothing wants memory.
+        match self.commits.push(part.commit()) {
+            Ok(()) => {}
+            Err(_) => unreachable!(),
+        }
+        say_all(&mut self.current, changes);
+        release_all(&mut self.locks, session);
+        let count = self.commits.len() as u64;
+        self.floor = floor_after(&self.options, self.floor, count);
+        Ok(Reply::Committed(count))
+    }
+
+    /// Whether an entry with this token and call is legal now.
+    pub fn legal(&self, token: Token, _call: &Call) -> bool
+        ensures { IsTrue result ↔ IsLegal self.now token.session token.kind _call.now }
+    {
+        let session = token.session;
+        if session == 0 || session as usize > self.sessions.len() {
+            return false;
+        }
+        let part = &self.sessions[session as usize - 1];
+        if part.has_ended() || part.has_promise() {
+            return false;
+        }
+        match token.kind {
+            Kind::Call => true,
+            Kind::Promise | Kind::Cancel => false,
+        }
+    }
+
+    /// One legal entry: the reply, and the table after it. The answer is none exactly for a promise and a cancel, and
+    /// neither is legal today. After want of memory the table is as before.
+    pub fn step(&mut self, token: Token, call: &Call) -> Mem<Option<Reply>>
+        requires legal { IsLegal self.old token.session token.kind call.now }
+        requires built { IsTrue (has_step call.now) }
+        ensures ok { IfOk result (λ answer. (self.new, answer) ≡ applied self.old token.session token.kind call.now) }
+        ensures err { OnErr result (self.new ≡ self.old) }
+    {
+        match token.kind {
+            Kind::Call => {
+                let reply = self.call(token.session, call)?;
+                Ok(Some(reply))
+            }
+            Kind::Promise | Kind::Cancel => Ok(None),
+        }
+    }
+
+    // One call of a session that has a step.
+    fn call(&mut self, session: u16, call: &Call) -> Mem<Reply>
+        requires session { IsTrue (has_session self.old session) }
+        requires built { IsTrue (has_step call.now) }
+        ensures ok { IfOk result (λ reply. (self.new, reply) ≡ step self.old session call.now) }
+        ensures err { OnErr result (self.new ≡ self.old) }
+    {
+        match call {
+            Call::Insert { row } => self.insert(session, row),
+            Call::Lock { to, row } => self.lock(session, to, row),
+            Call::WriteAppend { at, bytes } => self.write_append(session, at, bytes.as_bytes()),
+            Call::Length { at } => Ok(self.length(session, at)),
+            Call::Read { at, amount, offset } => self.read(session, at, *amount, *offset),
+            Call::Commit => self.commit(session),
+            Call::End => Ok(self.end(session)),
+            _ => unreachable!(),
+        }
     }
 }

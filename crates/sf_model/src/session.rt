@@ -1,5 +1,5 @@
 //! The part of one session.
-ghost use Rattle.std.specs.Prelude.{◌≡◌, Some, IsSome, IfOk, OnOk, OnErr, MatchResult};
+ghost use Rattle.std.specs.Prelude.{◌≡◌, [], None, Some, false, IsSome, IfOk, OnOk, OnErr, MatchResult};
 ghost use Rattle.std.specs.Option.{option_copied};
 ghost use Rattle.sf_types.specs.Table.{new_session};
 ghost use Rattle.sf_types.specs.Sessions.{in_transaction, transaction, row_value, lacks_room};
@@ -75,6 +75,15 @@ impl Session {
         ensures { result ≡ self.now.has_ended }
     {
         self.has_ended
+    }
+
+    /// Whether a promise of the session stands. None does today.
+    pub fn has_promise(&self) -> bool
+        ensures answer { result ≡ false }
+        ensures none { self.now.promise ≡ None }
+    {
+        let _ = &self.epoch;
+        false
     }
 
     /// The row's value for the session, where the row holds `current`.
@@ -283,9 +292,10 @@ impl Session {
         Ok(())
     }
 
-    /// Whether a transaction is open.
+    /// Whether a transaction is open. A session has no savepoint today.
     pub fn is_open(&self) -> bool
-        ensures { result ≡ self.now.is_open }
+        ensures is_open { result ≡ self.now.is_open }
+        ensures no_savepoints { self.now.savepoints ≡ [] }
     {
         self.is_open
     }

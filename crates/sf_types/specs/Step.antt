@@ -29,12 +29,17 @@ has_step _ = false
 abbrev pub put_into : Table → ℕ → Session × Reply → Table × Reply
 put_into t s done = (with_session t s done.0, done.1)
 
+-- What WriteAppend does in the table.
+abbrev pub append_step : Table → ℕ → Session → List ℕ → List ℕ → Table × Reply
+append_step t s p at buffer =
+    let row = (locator p at).row in
+    put_into t s (write_append p (holds t.locks s row) (current t row) at buffer)
+
 -- A call of session s, whose part of the table is p. Of a call that has no step today this says nothing of use.
 abbrev pub call_of : Table → ℕ → Session → Call → Table × Reply
 call_of t s p (call.Insert row) = insert t s p row
 call_of t s p (call.Lock to row) = lock t s p to row
-call_of t s p (call.WriteAppend at bytes) =
-    put_into t s (write_append p (holds t.locks s (locator p at).row) (current t (locator p at).row) at bytes)
+call_of t s p (call.WriteAppend at bytes) = append_step t s p at bytes
 call_of t s p (call.Length at) = put_into t s (length_call p at)
 call_of t s p (call.Read at amount offset) = put_into t s (read_call p at amount offset)
 call_of t s p call.Commit = commit t s p
@@ -65,13 +70,14 @@ pub record IsLegal (t : Table) (s : ℕ) (k : Kind) (c : Call) : Type 0 where
   pub goes_on : (session_of t s).has_ended ≡ false
   pub standing : IsLegalBeside (session_of t s).promise (is_due t s c) k c
 
--- An entry's step. A promise and a cancel answer nothing; neither is legal today.
+-- An entry's step: a call has its reply. A promise and a cancel have none, and neither is legal today.
+abbrev pub applied : Table → ℕ → Kind → Call → Table × Option Reply
+applied t s kind.Call c = let done = step t s c in (done.0, Some done.1)
+applied t s kind.Promise c = (t, None)
+applied t s kind.Cancel c = (t, None)
+
 abbrev pub apply : Table → Entry → Table × Option Reply
-apply t e = by_kind t e e.token.kind
-  where
-    by_kind : Table → Entry → Kind → Table × Option Reply
-    by_kind t e kind.Call = let done = step t e.token.session e.call in (done.0, Some done.1)
-    by_kind t e _ = (t, None)
+apply t e = applied t e.token.session e.token.kind e.call
 
 -- The table after some entries, one after the other.
 abbrev pub table_after : Table → List Entry → Table
