@@ -12,13 +12,13 @@ use std::io::{Read, Write};
 use std::marker::Model;
 
 /// The most bytes that a read of a `StdSource` moves.
-const PIECE: usize = 65536;
+const PIECE: usize = 4096;
 
 /// A reader of std as a source. Each `Err` of the reader is a fault, `Interrupted` too.
 ///
 /// It tells what the reader tells, which is nothing for the standard input. No clause of std says
 /// what a read leaves in the rest of its buffer, so the bytes go through a buffer of the source's
-/// own, and a read moves at most 65,536 of them.
+/// own, and a read moves at most 4,096 of them.
 #[derive(Drop)]
 pub struct StdSource<R> {
     reader: R,

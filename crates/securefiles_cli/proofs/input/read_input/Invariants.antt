@@ -1,0 +1,15 @@
+use Rattle.std.proofs.Common.{◌≡◌, ◌≤◌, ◌-◌, vec_len}
+use Rattle.sf_outside.specs.Source.{Gave}
+use Rattle.securefiles_cli.specs.Inputs.{read_limit}
+use Rattle.securefiles_cli.proofs.input.read_input.Given as goal
+
+abbrev pub invariant-loop-bytes : goal.invariant-loop-bytes
+invariant-loop-bytes g l = record {
+  gave : Gave (g.S.Source.left l.fn.source) (g.S.Source.left l.source) l.bytes.items;
+  later : g.S.Source.faults l.fn.source ≤ g.S.Source.faults l.source;
+  most : vec_len l.bytes ≤ 16777217;
+  piece : vec_len l.buffer ≡ 65536;
+}
+
+abbrev pub decreases-loop-bytes : goal.decreases-loop-bytes
+decreases-loop-bytes g l = 16777217 - vec_len l.bytes

@@ -1,0 +1,7 @@
+//! The program.
+#![tactic(auto)]
+
+mod input;
+mod output;
+
+fn main() {}

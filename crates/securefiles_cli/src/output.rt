@@ -1,0 +1,24 @@
+//! Writing the whole output.
+ghost use Rattle.std.specs.Prelude.{◌≤◌, OnOk, OnErr};
+ghost use Rattle.sf_outside.specs.Causes.{Rose};
+ghost use Rattle.sf_outside.specs.Sink.{GrowsBy};
+ghost use Rattle.securefiles_cli.specs.Outputs.{GrowsByFront};
+
+use sf_outside::{Failed, Sink};
+
+/// Writes a text whole. Where the sink fails, a front of the text was taken.
+pub fn write_output<K: Sink>(sink: &mut K, text: &[u8]) -> Result<(), Failed>
+    ensures whole { OnOk result (GrowsBy (K.taken sink.old) (K.taken sink.new) text.now) }
+    ensures front { OnErr result (GrowsByFront (K.taken sink.old) (K.taken sink.new) text.now) }
+    ensures later { K.faults sink.old ≤ K.faults sink.new }
+    ensures cause { OnErr result (Rose (K.faults sink.old) (K.faults sink.new)) }
+{
+    let mut rest = text;
+    while !rest.is_empty() {
+        match sink.write(rest) {
+            Ok(count) => rest = &rest[count..],
+            Err(failed) => return Err(failed),
+        }
+    }
+    Ok(())
+}
