@@ -1,0 +1,8 @@
+use Rattle.std.proofs.Common.{◌≡◌, arith}
+use Rattle.sf_script.proofs.DraftSteps.{new_is_draft}
+use Rattle.sf_script.proofs.reading.Draft.new.Goals as goal
+
+pub invariant_of-result : goal.invariant_of-result
+invariant_of-result c =
+    let whole : c.loop.counter ≡ c.args.sessions = omega arith in
+    rw (c.loop.invariant, whole) (new_is_draft c.args.sessions c.requires.low c.requires.high)

@@ -1,0 +1,10 @@
+use Rattle.std.proofs.Common.{◌≡◌, length}
+use Rattle.sf_script.specs.Schedules.{are_turns}
+use Rattle.sf_script.specs.Words.{parts_of}
+use Rattle.sf_script.proofs.schedule.are_turns.Given as goal
+
+abbrev pub invariant-loop-word : goal.invariant-loop-word
+invariant-loop-word l = are_turns l.sessions (parts_of l.rest) ≡ are_turns l.sessions (parts_of l.text)
+
+abbrev pub decreases-loop-word : goal.decreases-loop-word
+decreases-loop-word l = length l.rest

@@ -1,0 +1,12 @@
+-- Scripts that are being read.
+use Rattle.std.specs.Prelude.{◌≡◌, ℕ, ◌≤◌}
+use Rattle.sf_script.specs.Limits.{script_calls, script_payload_bytes}
+use Rattle.sf_script.specs.Parts.{ScriptParts, IsScript, call_count, payload_bytes}
+
+-- A script with the number of its calls and of their payload bytes, which are within the limits.
+pub record IsDraft (parts : ScriptParts) (count bytes : ℕ) : Type 0 where
+  pub script : IsScript parts
+  pub calls : count ≡ call_count parts.calls
+  pub payloads : bytes ≡ payload_bytes parts.calls
+  pub few : count ≤ script_calls
+  pub small : bytes ≤ script_payload_bytes

@@ -1,0 +1,85 @@
+-- The forms of lines. Which form a line has depends on where it stands.
+use Rattle.std.specs.Prelude.{ℕ, Bool, true, false, not, ◌&&◌, ◌==◌, List, Option, Some, None, if◌then◌else◌, codes}
+use Rattle.sf_types.specs.declared.call.Call.{Call}
+use Rattle.sf_types.specs.declared.call.Call.TheVariants as calls
+use Rattle.sf_script.specs.declared.call.PayloadCall.TheVariants as wants
+use Rattle.sf_script.specs.declared.turn.Turn.{Turn}
+use Rattle.sf_script.specs.declared.reading.Reading.{Reading}
+use Rattle.sf_script.specs.declared.reading.Reading.TheVariants as reads
+use Rattle.sf_script.specs.CallLines.{call_form}
+use Rattle.sf_script.specs.Calls.{CallForm, Plain, WithPayload}
+use Rattle.sf_script.specs.Gives.{◌>>=◌}
+use Rattle.sf_script.specs.Numbers.{is_empty_list, number_of}
+use Rattle.sf_script.specs.OptionLines.{OptionLine, option_of}
+use Rattle.sf_script.specs.Payloads.{Text}
+use Rattle.sf_script.specs.Schedules.{session_of, are_turns, turns_of, schedule_words}
+use Rattle.sf_script.specs.Words.{first_word, word_at, is_word}
+
+-- What a line says: the header, an option, the number of sessions, a session's call, or turns of the schedule.
+pub data LineForm : Type 0 where
+  HeaderLine : LineForm
+  SetsOption : OptionLine → LineForm
+  SessionsLine : ℕ → LineForm
+  CallLine : ℕ → CallForm → LineForm
+  ScheduleLine : List Turn → LineForm
+
+-- `securefiles 1`
+unfoldable pub header_line : List ℕ → Option LineForm
+header_line text = if is_word (codes "securefiles 1") text then Some HeaderLine else None
+
+-- The number behind `sessions`.
+abbrev pub sessions_line : List ℕ → Option LineForm
+sessions_line text = do
+  number ← number_of text
+  Some (SessionsLine number)
+
+-- `sessions N`, or an option's word and what it is set to
+unfoldable pub option_line : List ℕ → Option LineForm
+option_line text = do
+  word ← word_at text
+  if is_word (codes "sessions") word.0 then sessions_line word.1 else (do
+    option ← option_of word.0 word.1
+    Some (SetsOption option))
+
+-- `S: ` and a call
+unfoldable pub call_line : ℕ → List ℕ → Option LineForm
+call_line sessions text = do
+  word ← word_at text
+  session ← session_of sessions word.0
+  form ← call_form word.1
+  Some (CallLine session form)
+
+-- `schedule` and one or more turns
+unfoldable pub schedule_line : ℕ → List ℕ → Option LineForm
+schedule_line sessions text =
+    let words = schedule_words text in
+    if not (is_empty_list words) && are_turns sessions words then Some (ScheduleLine (turns_of sessions words)) else None
+
+-- The form of a line. None where it has none.
+abbrev pub form_of : Reading → List ℕ → Option LineForm
+form_of reads.Nothing text = header_line text
+form_of reads.Header text = option_line text
+form_of (reads.Sessions parts) text =
+    if is_word (codes "schedule") (first_word text) then schedule_line parts.sessions text else call_line parts.sessions text
+
+-- Whether a call without a payload is built: `insert`, `lock`, `length`, `read` and `commit` are.
+abbrev pub is_built_plain : Call → Bool
+is_built_plain (calls.Insert row) = true
+is_built_plain (calls.Lock to row) = true
+is_built_plain (calls.Length at) = true
+is_built_plain (calls.Read at amount offset) = true
+is_built_plain calls.Commit = true
+is_built_plain _ = false
+
+-- Whether a call is built. With a payload only `writeappend` of a text is.
+abbrev pub is_built_call : CallForm → Bool
+is_built_call (Plain call) = is_built_plain call
+is_built_call (WithPayload (wants.WriteAppend at) (Text bytes)) = true
+is_built_call _ = false
+
+-- Whether a form is built: the header, `sessions 1` and the calls that are built.
+abbrev pub is_built : LineForm → Bool
+is_built HeaderLine = true
+is_built (SessionsLine number) = number == 1
+is_built (CallLine session form) = is_built_call form
+is_built _ = false

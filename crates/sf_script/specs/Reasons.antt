@@ -1,0 +1,96 @@
+-- Why a line is refused, and what a right line adds to what was read before it: nothing, the header alone, or the sessions line with the script so far.
+use Rattle.std.specs.Prelude.{ℕ, ◌+◌, ◌-◌, Bool, false, not, ◌&&◌, ◌||◌, nat_le, nat_lt, List, [], ◌∷◌, ◌++◌, length, replicate, slice_index_or, slice_set, Option, Some, None, is_none, if◌then◌else◌, codes}
+use Rattle.std.specs.List.{list_all}
+use Rattle.std.specs.Option.{option_map_or}
+use Rattle.sf_types.specs.Limits.{buffer_bytes, standard_options}
+use Rattle.sf_types.specs.declared.call.Call.{Call}
+use Rattle.sf_script.specs.declared.fault.Reason.{Reason}
+use Rattle.sf_script.specs.declared.fault.Reason.TheVariants.{Bytes, Place, Session, Form, Later, Limit}
+use Rattle.sf_script.specs.declared.reading.Reading.{Reading}
+use Rattle.sf_script.specs.declared.reading.Reading.TheVariants as reads
+use Rattle.sf_script.specs.Calls.{call_of}
+use Rattle.sf_script.specs.Limits.{script_calls, script_payload_bytes, script_turns, script_sessions}
+use Rattle.sf_script.specs.LineForms.{LineForm, HeaderLine, SetsOption, SessionsLine, CallLine, ScheduleLine, form_of, is_built}
+use Rattle.sf_script.specs.Lines.{Line, is_line_byte}
+use Rattle.sf_script.specs.OptionLines.{is_option_word, is_option_in_range}
+use Rattle.sf_script.specs.Parts.{ScriptParts, payload_length, call_count, payload_bytes}
+use Rattle.sf_script.specs.Schedules.{ends_with_colon, session_of, are_turns, schedule_words}
+use Rattle.sf_script.specs.Words.{first_word, is_word}
+
+-- The line isn't ended, or holds a byte outside 0x20 to 0x7E.
+unfoldable pub has_wrong_bytes : Line → Bool
+has_wrong_bytes line = not line.ended || not (list_all is_line_byte line.text)
+
+-- The first word may not stand here. On line 1 only `securefiles` may, until the sessions line an option's word or `sessions`, and after it a word that ends with a colon or `schedule`.
+unfoldable pub is_misplaced : Reading → List ℕ → Bool
+is_misplaced reads.Nothing text = not (is_word (codes "securefiles") (first_word text))
+is_misplaced reads.Header text = not (is_option_word (first_word text) || is_word (codes "sessions") (first_word text))
+is_misplaced (reads.Sessions parts) text = not (ends_with_colon (first_word text) || is_word (codes "schedule") (first_word text))
+
+-- The first word of a call line names no session, or a word of a schedule line after the first is no turn.
+unfoldable pub names_no_session : Reading → List ℕ → Bool
+names_no_session (reads.Sessions parts) text =
+    if is_word (codes "schedule") (first_word text) then not (are_turns parts.sessions (schedule_words text)) else is_none (session_of parts.sessions (first_word text))
+names_no_session _ text = false
+
+-- The line has none of the forms that may stand here.
+abbrev pub has_no_form : Reading → List ℕ → Bool
+has_no_form reading text = is_none (form_of reading text)
+
+-- The line's form isn't built yet.
+abbrev pub is_not_built : Reading → List ℕ → Bool
+is_not_built reading text = option_map_or (λ form. not (is_built form)) (form_of reading text) false
+
+-- A call's payload of so many bytes is too long, or with this call the script has too many calls or payload bytes.
+abbrev pub passes_call_limit : ScriptParts → ℕ → Bool
+passes_call_limit parts bytes =
+    nat_lt buffer_bytes bytes || nat_lt script_calls (call_count parts.calls + 1) || nat_lt script_payload_bytes (payload_bytes parts.calls + bytes)
+
+-- A form passes a limit: an option or the number of sessions is out of its range, or the calls, the payload bytes or the turns are too many.
+unfoldable pub form_passes_limit : Reading → LineForm → Bool
+form_passes_limit reading HeaderLine = false
+form_passes_limit reading (SetsOption option) = not (is_option_in_range option)
+form_passes_limit reading (SessionsLine number) = not (nat_le 1 number && nat_le number script_sessions)
+form_passes_limit (reads.Sessions parts) (CallLine session form) = passes_call_limit parts (payload_length (call_of form))
+form_passes_limit (reads.Sessions parts) (ScheduleLine turns) = nat_lt script_turns (length parts.turns + length turns)
+form_passes_limit _ _ = false
+
+-- The line passes a limit.
+abbrev pub passes_limit : Reading → List ℕ → Bool
+passes_limit reading text = option_map_or (form_passes_limit reading) (form_of reading text) false
+
+-- The first reason of a table that holds.
+abbrev pub first_reason : List (Bool × Reason) → Option Reason
+first_reason [] = None
+first_reason ((holds, reason) ∷ table) = if holds then Some reason else first_reason table
+
+-- Why a line is refused after what was read before it: the first reason that holds.
+abbrev pub reason_of : Reading → Line → Option Reason
+reason_of reading line = first_reason (
+    (has_wrong_bytes line, Bytes)
+    ∷ (is_misplaced reading line.text, Place)
+    ∷ (names_no_session reading line.text, Session)
+    ∷ (has_no_form reading line.text, Form)
+    ∷ (is_not_built reading line.text, Later)
+    ∷ (passes_limit reading line.text, Limit)
+    ∷ [])
+
+-- A script of so many sessions with no calls and no schedule.
+abbrev pub new_script : ℕ → ScriptParts
+new_script sessions = record { options = standard_options; sessions = sessions; calls = replicate sessions []; turns = [] }
+
+-- A script with one more call of a session, its last.
+abbrev pub with_call : ScriptParts → ℕ → Call → ScriptParts
+with_call parts session call = record parts { calls = slice_set parts.calls (session - 1) (slice_index_or parts.calls (session - 1) [] ++ call ∷ []) }
+
+-- What a form adds to what was read before it.
+abbrev pub after_form : Reading → LineForm → Reading
+after_form reading HeaderLine = reads.Header
+after_form reading (SessionsLine number) = reads.Sessions (new_script number)
+after_form (reads.Sessions parts) (CallLine session form) = reads.Sessions (with_call parts session (call_of form))
+after_form (reads.Sessions parts) (ScheduleLine turns) = reads.Sessions (record parts { turns = parts.turns ++ turns })
+after_form reading _ = reading
+
+-- What a right line adds to what was read before it.
+abbrev pub after_line : Reading → List ℕ → Reading
+after_line reading text = option_map_or (after_form reading) (form_of reading text) reading
