@@ -1,2 +1,4 @@
+pub mod LiveSteps
+pub mod Played
 pub mod Reading
 pub mod Written

@@ -1,2 +1,5 @@
 pub mod Inputs
+pub mod Live
 pub mod Outputs
+pub mod Plays
+pub mod Transcripts

@@ -3,5 +3,7 @@
 
 mod input;
 mod output;
+mod play;
+mod transcript;
 
 fn main() {}

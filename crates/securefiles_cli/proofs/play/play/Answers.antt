@@ -1,0 +1,22 @@
+use Rattle.std.proofs.Common.{◌≡◌, ◌∙◌, rules, ap, refl}
+use Rattle.sf_types.specs.Rows.{ends_of}
+use Rattle.sf_types.specs.Versions.{now}
+use Rattle.securefiles_cli.specs.Plays.{calls_of, opening_of, replies_of, end_of}
+use Rattle.securefiles_cli.proofs.Played.{told_to, left_by, order-is}
+use Rattle.securefiles_cli.proofs.play.play.Goals as goal
+
+pub returns : goal.returns
+returns c =
+    let script = c.args.script.now in
+    let calls = c.first_calls-calls.ensures.calls in
+    let opened : c.in_ok-plain.plain ≡ opening_of script = rw (c.in_ok-plain.ensures, c.options.ensures.value, c.sessions.ensures.value) refl in
+    let told : c.in_ok-replies.replies ≡ replies_of script = c.in_ok-replies.ensures.replies ∙ ap (λ t. told_to t c.first_calls-calls.result.now) opened ∙ ap (told_to (opening_of script)) calls in
+    let left : c.play_session.new.plain ≡ end_of script = c.in_ok-replies.ensures.table ∙ ap (λ t. left_by t c.first_calls-calls.result.now) opened ∙ ap (left_by (opening_of script)) calls in
+    record {
+      order = c.order.view_is ∙ c.in_ok-order.ensures ∙ rw calls (order-is (calls_of script));
+      replies = c.table.view_is ∙ rw (c.in_ok-push.ensures.ok, c.new-table.ensures, told) refl;
+      places = search rules;
+      free = search rules;
+      rows = c.in_ok-rows.ensures ∙ ap ends_of left;
+      commits = c.now.ensures ∙ ap now left;
+    }

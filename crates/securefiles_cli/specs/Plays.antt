@@ -1,0 +1,56 @@
+-- The play of a script. There is one session today.
+use Rattle.std.specs.Prelude.{◌≡◌, ℕ, List, [], ◌∷◌, ◌++◌, map, slice_index_or}
+use Rattle.sf_types.specs.declared.call.Call.{Call}
+use Rattle.sf_types.specs.declared.call.Call.TheVariants.{End}
+use Rattle.sf_types.specs.declared.history.Entry.{Entry}
+use Rattle.sf_types.specs.declared.history.Kind.TheVariants as kind
+use Rattle.sf_types.specs.declared.history.Token.{Token}
+use Rattle.sf_types.specs.declared.played.Played.{Played}
+use Rattle.sf_types.specs.declared.reply.Reply.{Reply}
+use Rattle.sf_types.specs.Rows.{ends_of}
+use Rattle.sf_types.specs.Step.{table_after, replies_from, replies_to}
+use Rattle.sf_types.specs.Table.{Table, opening}
+use Rattle.sf_types.specs.Versions.{now}
+use Rattle.sf_script.specs.Parts.{ScriptParts}
+use Rattle.securefiles_cli.specs.Transcripts.{transcript_text}
+
+-- The session that plays.
+abbrev pub entry_of : Call → Entry
+entry_of call = record { token = record { session = 1; kind = kind.Call }; call = call }
+
+-- The calls of session 1, without its End.
+abbrev pub calls_of : ScriptParts → List Call
+calls_of script = slice_index_or script.calls 0 []
+
+-- The history: session 1 once for each of its calls, in script order, and once for its End.
+abbrev pub history_of : ScriptParts → List Entry
+history_of script = map entry_of (calls_of script ++ End ∷ [])
+
+abbrev pub order_of : ScriptParts → List Token
+order_of script = map (λ entry. entry.token) (history_of script)
+
+abbrev pub opening_of : ScriptParts → Table
+opening_of script = opening script.options script.sessions
+
+-- The table at the end.
+abbrev pub end_of : ScriptParts → Table
+end_of script = table_after (opening_of script) (history_of script)
+
+-- The replies to the calls of session 1, its End last.
+abbrev pub replies_of : ScriptParts → List Reply
+replies_of script = replies_to 1 (replies_from (opening_of script) (history_of script))
+
+-- The transcript of a script: the order, and what the plain table answers and holds in the run of that order.
+abbrev pub transcript_of : ScriptParts → List ℕ
+transcript_of script =
+    transcript_text (order_of script) (replies_of script ∷ []) (ends_of (end_of script)) (now (end_of script))
+
+-- What the play of a script gives: the order, the replies, the rows and the number of commits. Nothing has blocks
+-- today, so no content has a place and the whole capacity is free.
+pub record IsPlayed (script : ScriptParts) (played : Played) : Type 0 where
+  pub order : played.order ≡ order_of script
+  pub replies : played.replies ≡ replies_of script ∷ []
+  pub places : played.places ≡ []
+  pub free : played.free ≡ script.options.capacity
+  pub rows : played.rows ≡ ends_of (end_of script)
+  pub commits : played.now ≡ now (end_of script)
