@@ -4,6 +4,8 @@
 mod input;
 mod output;
 mod play;
+mod program;
+mod status;
 mod transcript;
 
 fn main() {}

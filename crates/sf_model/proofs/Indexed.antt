@@ -20,7 +20,7 @@ after_none (Some said) = refl
 pub present-index : (index : Rows) (commits : List Rows) → IsStrictlySortedBy name_cmp (keys_of index) → HoldsCurrent index commits → present index ≡ present (merged_over [] commits)
 present-index index commits ordered holds =
     present-same index (merged_over [] commits) (rising_from_ordered index ordered) (rising-merged_over commits [] (rising_empty (Option Value)))
-      (λ q. holds.same q ∙ ap or_absent (sym (after_none (said commits q)) ∙ sym (get-merged_over commits [] q)))
+    (λ q. holds.same q ∙ ap or_absent (sym (after_none (said commits q)) ∙ sym (get-merged_over commits [] q)))
 
 -- an index that says the same as one that has what the rows hold
 pub holds_after : (old new : Rows) (commits : List Rows) → SaysTheSame old new → HoldsCurrent old commits → HoldsCurrent new commits
@@ -46,7 +46,7 @@ same_later x y (Some said) same = refl
 pub holds_more : (old new : Rows) (commits : List Rows) (working : Rows) → HoldsCurrent old commits → ((q : List ℕ) → get new q ≡ later (get old q) (get working q)) → HoldsCurrent new (commits ++ working ∷ [])
 holds_more old new commits working holds changed = record {
   same = λ q.
-    ap or_absent (changed q)
-    ∙ same_later (get old q) (said commits q) (get working q) (holds.same q)
-    ∙ ap or_absent (sym (said_last commits working q));
+      ap or_absent (changed q)
+      ∙ same_later (get old q) (said commits q) (get working q) (holds.same q)
+      ∙ ap or_absent (sym (said_last commits working q));
 }

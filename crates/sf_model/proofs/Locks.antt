@@ -1,7 +1,7 @@
 -- Locks that are taken and given back.
-use Rattle.std.proofs.Common.{◌≡◌, ℕ, Bool, true, false, not, cond, eqb, List, Option, Some, None, refl, ap, ◌∙◌}
+use Rattle.std.proofs.Common.{◌≡◌, ℕ, Bool, true, false, not, cond, eqb, List, Option, Some, None, refl}
 use Rattle.std.specs.Option.{option_map_or}
-use Rattle.sf_types.specs.NameMaps.{NameMap, get, put, without}
+use Rattle.sf_types.specs.NameMaps.{NameMap, get, without}
 use Rattle.sf_types.specs.Sessions.{holds, is_busy, with_lock}
 use Rattle.sf_types.proofs.NameMapLemmas.{without-put}
 

@@ -1,6 +1,6 @@
 -- Fresh bytes without their marks.
 use Rattle.std.proofs.Common.{◌≡◌, ℕ, List, [], ◌∷◌, map, refl, ap}
-use Rattle.sf_types.specs.Values.{fresh, fresh_byte}
+use Rattle.sf_types.specs.Values.{fresh}
 
 pub bytes_of-fresh : (xs : List ℕ) → map (λ m. m.byte) (fresh xs) ≡ xs
 bytes_of-fresh [] = refl

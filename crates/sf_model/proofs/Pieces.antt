@@ -1,5 +1,5 @@
 -- A list in pieces.
-use Rattle.std.proofs.Common.{◌≡◌, ℕ, suc, ◌+◌, ◌-◌, ◌≤◌, ◌<◌, min, List, [], ◌∷◌, ◌++◌, length, get_or, take, drop, refl, sym, ap, ◌∙◌, append_assoc, arith, inl, inr}
+use Rattle.std.proofs.Common.{◌≡◌, ℕ, ◌+◌, ◌-◌, ◌<◌, min, List, [], ◌∷◌, ◌++◌, length, get_or, take, drop, refl, sym, ap, ◌∙◌, append_assoc, arith, inl, inr}
 use Rattle.std.specs.List.{flat_map}
 use Rattle.std.proofs.lemmas.Bool.{cases_lt}
 use Rattle.std.proofs.lemmas.List.{append-nil, take-append-le, drop-append-le, take_all, drop_all, take_min, drop_min, drop_more, take_more, take-append-drop}
@@ -10,22 +10,22 @@ pub take-over : (n : ℕ) (xs ys : List ℕ) → take n (xs ++ ys) ≡ take n xs
 take-over n xs ys =
     elim (cases_lt n (length xs)) [
       | inl lt ↦
-        let none : n - length xs ≡ 0 = omega arith in
-        take-append-le n xs ys (omega arith) ∙ sym (append-nil (take n xs)) ∙ ap (λ k. take n xs ++ take k ys) (sym none)
+          let none : n - length xs ≡ 0 = omega arith in
+          take-append-le n xs ys (omega arith) ∙ sym (append-nil (take n xs)) ∙ ap (λ k. take n xs ++ take k ys) (sym none)
       | inr le ↦
-        let sum : n ≡ length xs + (n - length xs) = omega arith in
-        ap (λ k. take k (xs ++ ys)) sum ∙ take-append-add xs ys (n - length xs) ∙ ap (λ (zs : List ℕ). zs ++ take (n - length xs) ys) (sym (take_all n xs le))
+          let sum : n ≡ length xs + (n - length xs) = omega arith in
+          ap (λ k. take k (xs ++ ys)) sum ∙ take-append-add xs ys (n - length xs) ∙ ap (λ (zs : List ℕ). zs ++ take (n - length xs) ys) (sym (take_all n xs le))
     ]
 
 pub drop-over : (n : ℕ) (xs ys : List ℕ) → drop n (xs ++ ys) ≡ drop n xs ++ drop (n - length xs) ys
 drop-over n xs ys =
     elim (cases_lt n (length xs)) [
       | inl lt ↦
-        let none : n - length xs ≡ 0 = omega arith in
-        drop-append-le n xs ys (omega arith) ∙ ap (λ k. drop n xs ++ drop k ys) (sym none)
+          let none : n - length xs ≡ 0 = omega arith in
+          drop-append-le n xs ys (omega arith) ∙ ap (λ k. drop n xs ++ drop k ys) (sym none)
       | inr le ↦
-        let sum : n ≡ length xs + (n - length xs) = omega arith in
-        ap (λ k. drop k (xs ++ ys)) sum ∙ drop-append-add xs ys (n - length xs) ∙ ap (λ (zs : List ℕ). zs ++ drop (n - length xs) ys) (sym (drop_all n xs le))
+          let sum : n ≡ length xs + (n - length xs) = omega arith in
+          ap (λ k. drop k (xs ++ ys)) sum ∙ drop-append-add xs ys (n - length xs) ∙ ap (λ (zs : List ℕ). zs ++ drop (n - length xs) ys) (sym (drop_all n xs le))
     ]
 
 -- one piece is read, and then the rest
@@ -70,7 +70,7 @@ read_on pieces i x part rest out total skip left from moved lt x-is part-is from
     let rest-x : rest ≡ drop from x = rest-is ∙ ap (drop from) part-is in
     let moved-x : moved ≡ min left (length (drop from x)) = moved-is ∙ ap (λ (y : List ℕ). min left (length y)) rest-x in
     let before : out ++ take left (drop skip (flat_map (λ piece. piece) (x ∷ drop (i + 1) pieces))) ≡ total =
-      ap (λ (ys : List (List ℕ)). out ++ take left (drop skip (flat_map (λ piece. piece) ys))) (sym next) ∙ so_far in
+    ap (λ (ys : List (List ℕ)). out ++ take left (drop skip (flat_map (λ piece. piece) ys))) (sym next) ∙ so_far in
     rw rest-x (read_more out x (drop (i + 1) pieces) total skip left from moved from-x moved-x before)
 
 -- the first pieces and one more

@@ -1,10 +1,10 @@
 -- What is said of rows after one more saying.
-use Rattle.std.proofs.Common.{◌≡◌, ℕ, ◌+◌, ◌<◌, Bool, true, false, cond, IsTrue, List, [], ◌∷◌, ◌++◌, length, take, get_or, Option, Some, None, refl, sym, ap, subst, ◌∙◌, append_assoc, rules}
+use Rattle.std.proofs.Common.{◌≡◌, ℕ, ◌+◌, ◌<◌, Bool, true, false, cond, IsTrue, List, [], ◌∷◌, ◌++◌, length, take, get_or, Option, Some, None, refl, sym, ap, ◌∙◌}
 use Rattle.std.specs.Prelude.{is_some}
 use Rattle.std.specs.List.{All}
 use Rattle.std.specs.Cmp.Lexicographic.{nat_list_cmp_total}
 use Rattle.std.proofs.lemmas.Cmp.{tied_itself}
-use Rattle.std.proofs.lemmas.List.Elements.{All-weaker, All-more, All-pop}
+use Rattle.std.proofs.lemmas.List.Elements.{All-weaker, All-more}
 use Rattle.sf_types.specs.NameMaps.{is_name_of, get, has, put}
 use Rattle.sf_types.specs.Table.{Rows}
 use Rattle.sf_types.specs.Values.{Value}

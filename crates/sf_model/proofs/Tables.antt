@@ -1,13 +1,13 @@
 -- Tables in which one session's part was changed.
-use Rattle.std.proofs.Common.{◌≡◌, ℕ, ◌+◌, ◌-◌, ◌≤◌, ◌<◌, Bool, true, false, not, ◌&&◌, cond, IsTrue, List, [], ◌∷◌, ◌++◌, length, get_or, set, Option, Some, None, refl, sym, ap, subst, ◌∙◌, arith}
-use Rattle.std.specs.Prelude.{is_some, is_none, unwrap_or, nat_le, slice_get, slice_set}
+use Rattle.std.proofs.Common.{◌≡◌, ℕ, ◌+◌, ◌-◌, ◌≤◌, ◌<◌, Bool, true, false, ◌&&◌, cond, IsTrue, List, [], ◌∷◌, ◌++◌, length, get_or, Option, Some, None, refl, sym, ap, ◌∙◌, arith}
+use Rattle.std.specs.Prelude.{is_some, unwrap_or, nat_le, slice_set}
 use Rattle.std.proofs.lemmas.Bool.Decides.{nat_tests}
 use Rattle.std.proofs.lemmas.Option.{slice_get-get_or}
 use Rattle.std.proofs.lemmas.List.{set-get_or}
 use Rattle.sf_types.specs.declared.reply.Reply.{Reply}
 use Rattle.sf_types.specs.declared.reply.Reply.TheVariants as reply
 use Rattle.sf_types.specs.NameMaps.{NameMap}
-use Rattle.sf_types.specs.Values.{Value, empty_value}
+use Rattle.sf_types.specs.Values.{Value}
 use Rattle.sf_types.specs.Table.{Locator, Rows, Savepoint, Session, Table, new_session}
 use Rattle.sf_types.specs.Sessions.{has_session, session_of, with_session, row_value, holds, is_busy, with_lock, released, lacks_room}
 use Rattle.sf_types.specs.RowCalls.{inserted, insert, locked, lock}
@@ -69,8 +69,8 @@ pub append_done : (t : Table) (s : ℕ) (at buffer row : List ℕ) (is_held : Bo
 append_done t s at buffer row is_held value p r done held-is value-is row-is =
     let q = session_of t s in
     let there : ◌≡◌ {A = Session × Reply} (write_append q is_held value at buffer) (write_append q (holds t.locks s (locator q at).row) (current t (locator q at).row) at buffer) =
-      ap (λ b. write_append q b value at buffer) (held-is ∙ ap (holds t.locks s) (sym row-is))
-      ∙ ap (λ (v : Option Value). write_append q (holds t.locks s (locator q at).row) v at buffer) (value-is ∙ ap (current t) (sym row-is)) in
+    ap (λ b. write_append q b value at buffer) (held-is ∙ ap (holds t.locks s) (sym row-is))
+    ∙ ap (λ (v : Option Value). write_append q (holds t.locks s (locator q at).row) v at buffer) (value-is ∙ ap (current t) (sym row-is)) in
     ap (put_into t s) (done ∙ there)
 
 -- a commit where no transaction is open and no savepoint is set
@@ -81,7 +81,7 @@ commit_none t s n has closed none n-is =
     let erased : record p { savepoints = [] } ≡ p = ap (λ (points : List Savepoint). record p { savepoints = points }) (sym none) in
     let same : with_session t s (record p { savepoints = [] }) ≡ t = ap (with_session t s) erased ∙ same_part t s has in
     let chosen : commit t s p ≡ (with_session t s (record p { savepoints = [] }), reply.Committed (now t)) =
-      ap (λ b. cond {A = Table × Reply} b (with_commit t s p, reply.Committed (now t + 1)) (with_session t s (record p { savepoints = [] }), reply.Committed (now t))) closed in
+    ap (λ b. cond {A = Table × Reply} b (with_commit t s p, reply.Committed (now t + 1)) (with_session t s (record p { savepoints = [] }), reply.Committed (now t))) closed in
     sym (chosen ∙ ap (λ (u : Table). (u, reply.Committed (now t))) same ∙ ap (λ k. (t, reply.Committed k)) (sym n-is))
 
 pub commit_done : (t : Table) (s n floor : ℕ) (commits : List Rows) (locks : NameMap ℕ) (p : Session) → (session_of t s).is_open ≡ true → commits ≡ t.commits ++ (session_of t s).working ∷ [] → n ≡ now t + 1 → floor ≡ floor_after t.options t.floor (now t + 1)

@@ -1,8 +1,5 @@
 -- What an index of the commits has.
 use Rattle.std.specs.Prelude.{◌≡◌, ℕ, List}
-use Rattle.std.specs.List.Sorted.{IsStrictlySortedBy}
-use Rattle.std.specs.Map.{keys_of}
-use Rattle.sf_types.specs.Names.{name_cmp}
 use Rattle.sf_types.specs.NameMaps.{get}
 use Rattle.sf_types.specs.Table.{Rows}
 use Rattle.sf_types.specs.Versions.{or_absent, said}

@@ -24,13 +24,13 @@ impl Model for Locator {
     ghost Value = { LocatorPart };
 
     ghost view = { λ l. record {
-        row = l.row;
-        value = l.value;
-        transaction = l.transaction;
-        epoch = l.epoch;
-        is_dirty = l.is_dirty;
-        is_lost = l.is_lost;
-        is_read_only = l.is_read_only;
+      row = l.row;
+      value = l.value;
+      transaction = l.transaction;
+      epoch = l.epoch;
+      is_dirty = l.is_dirty;
+      is_lost = l.is_lost;
+      is_read_only = l.is_read_only;
     } };
 }
 

@@ -15,7 +15,9 @@ ghost use Rattle.sf_types.specs.Step.{put_into, append_step, IsLegal, has_step, 
 use crate::rows::{Rows, changes_of, make_places, rows_present, said_value, say_all};
 use crate::session::Session;
 use crate::value::Value;
-use sf_types::{Call, Fault, Kind, LocName, Mem, Name, NameMap, Options, Reply, RowList, Token, TryCopy};
+use sf_types::{
+    Call, Fault, Kind, LocName, Mem, Name, NameMap, Options, Reply, RowList, Token, TryCopy,
+};
 use std::alloc::Global;
 use std::marker::Model;
 
@@ -41,12 +43,12 @@ impl Model for Plain {
     ghost use Rattle.sf_model.specs.Index.{HoldsCurrent};
 
     ghost view = { λ p. record {
-        options = p.options;
-        contents = [];
-        commits = p.commits.items;
-        floor = p.floor;
-        locks = p.locks;
-        sessions = p.sessions.items;
+      options = p.options;
+      contents = [];
+      commits = p.commits.items;
+      floor = p.floor;
+      locks = p.locks;
+      sessions = p.sessions.items;
     } };
 
     ghost invariant = { λ p. HoldsCurrent p.current p.commits.items };

@@ -43,14 +43,14 @@ impl Model for Session {
     ghost Value = { SessionPart };
 
     ghost view = { λ s. record {
-        opened = s.opened;
-        is_open = s.is_open;
-        working = s.working;
-        locators = s.locators;
-        promise = None;
-        epoch = s.epoch;
-        savepoints = [];
-        has_ended = s.has_ended;
+      opened = s.opened;
+      is_open = s.is_open;
+      working = s.working;
+      locators = s.locators;
+      promise = None;
+      epoch = s.epoch;
+      savepoints = [];
+      has_ended = s.has_ended;
     } };
 }
 
@@ -199,8 +199,9 @@ impl Session {
     fn put_written(&mut self, at: LocName, locator: Locator, value: Value) -> Mem<()>
         requires { IsSome (named self.old at) }
         ensures ok { OnOk result (self.new ≡ record self.old {
-            working = put self.old.working locator.row (Some value);
-            locators = put self.old.locators at locator }) }
+          working = put self.old.working locator.row (Some value);
+          locators = put self.old.locators at locator;
+        }) }
         ensures err { OnErr result (self.new ≡ self.old) }
     {
         let row = locator.row.copy()?;

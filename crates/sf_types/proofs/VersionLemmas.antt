@@ -1,17 +1,16 @@
 -- What rows hold, looked up and listed.
-use Rattle.std.proofs.Common.{◌≡◌, ℕ, Bool, true, false, ◌&&◌, cond, List, [], ◌∷◌, ◌++◌, Option, Some, None, refl, sym, ap, subst, ◌∙◌}
+use Rattle.std.proofs.Common.{◌≡◌, ℕ, Bool, true, false, cond, List, [], ◌∷◌, Option, Some, None, refl, sym, ap, ◌∙◌}
 use Rattle.std.specs.Prelude.{T}
-use Rattle.std.specs.List.{filter_map}
 use Rattle.std.specs.Ordering.{is_lt}
 use Rattle.std.specs.Cmp.Lexicographic.{nat_list_cmp_total}
 use Rattle.std.specs.FinMap.{nat_cmp-IsAntisymmetric, slice_cmp-IsAntisymmetric}
 use Rattle.std.specs.FinMap.Entries as fin
 use Rattle.sf_types.specs.Names.{name_cmp}
-use Rattle.sf_types.specs.NameMaps.{NameMap, is_name_of, get, put}
+use Rattle.sf_types.specs.NameMaps.{is_name_of, get}
 use Rattle.sf_types.specs.Values.{Value}
 use Rattle.sf_types.specs.Table.{Rows}
-use Rattle.sf_types.specs.Versions.{or_absent, later, said, over, merged_over, present, present_entry}
-use Rattle.sf_types.proofs.NameMapLemmas.{both, first, second, less, same_name, get-put, lookup-is, IsRisingMap, rising-put, rising_empty, absent_below}
+use Rattle.sf_types.specs.Versions.{or_absent, later, said, over, merged_over, present}
+use Rattle.sf_types.proofs.NameMapLemmas.{both, first, second, same_name, get-put, lookup-is, IsRisingMap, rising-put, absent_below}
 
 over_at : (b : Bool) (low up : Option (Option Value)) (x : Option Value) → cond b (Some x) (later low up) ≡ later low (cond b (Some x) up)
 over_at true low up x = refl
@@ -49,8 +48,8 @@ below-present x [] below = tt
 below-present x ((name, None) ∷ m) below = below-present x m (second (is_lt (name_cmp x name)) (fin.below_all name_cmp x m) below)
 below-present x ((name, Some v) ∷ m) below =
     both (is_lt (name_cmp x name)) (fin.below_all name_cmp x (present m))
-      (first (is_lt (name_cmp x name)) (fin.below_all name_cmp x m) below)
-      (below-present x m (second (is_lt (name_cmp x name)) (fin.below_all name_cmp x m) below))
+    (first (is_lt (name_cmp x name)) (fin.below_all name_cmp x m) below)
+    (below-present x m (second (is_lt (name_cmp x name)) (fin.below_all name_cmp x m) below))
 
 pub rising-present : (m : Rows) → IsRisingMap m → IsRisingMap (present m)
 unfolding IsRisingMap
@@ -58,8 +57,8 @@ rising-present [] rising = tt
 rising-present ((name, None) ∷ m) rising = rising-present m (second (fin.below_all name_cmp name m) (fin.is_sorted name_cmp m) rising)
 rising-present ((name, Some v) ∷ m) rising =
     both (fin.below_all name_cmp name (present m)) (fin.is_sorted name_cmp (present m))
-      (below-present name m (first (fin.below_all name_cmp name m) (fin.is_sorted name_cmp m) rising))
-      (rising-present m (second (fin.below_all name_cmp name m) (fin.is_sorted name_cmp m) rising))
+    (below-present name m (first (fin.below_all name_cmp name m) (fin.is_sorted name_cmp m) rising))
+    (rising-present m (second (fin.below_all name_cmp name m) (fin.is_sorted name_cmp m) rising))
 
 absent_at : (b : Bool) (x y : Option Value) (z : Option (Option Value)) → x ≡ or_absent z → (b ≡ true → z ≡ None) → x ≡ or_absent (cond b (Some None) z)
 absent_at true x y z is none = is ∙ ap or_absent (none refl)
@@ -75,8 +74,8 @@ unfolding IsRisingMap
 get-present [] q rising = refl
 get-present ((name, None) ∷ m) q rising =
     absent_at (is_name_of q name) (get (present m) q) None (get m q)
-      (get-present m q (second (fin.below_all name_cmp name m) (fin.is_sorted name_cmp m) rising))
-      (λ is. ap (λ k. get m k) (same_name q name is) ∙ absent_below name m (first (fin.below_all name_cmp name m) (fin.is_sorted name_cmp m) rising))
+    (get-present m q (second (fin.below_all name_cmp name m) (fin.is_sorted name_cmp m) rising))
+    (λ is. ap (λ k. get m k) (same_name q name is) ∙ absent_below name m (first (fin.below_all name_cmp name m) (fin.is_sorted name_cmp m) rising))
 get-present ((name, Some v) ∷ m) q rising =
     present_at (is_name_of q name) (get (present m) q) v (get m q) (get-present m q (second (fin.below_all name_cmp name m) (fin.is_sorted name_cmp m) rising))
 
@@ -85,4 +84,4 @@ pub present-same : (m n : Rows) → IsRisingMap m → IsRisingMap n → ((q : Li
 unfolding IsRisingMap
 present-same m n rising-m rising-n same =
     fin.same_entries name_cmp nat_list_cmp_total (slice_cmp-IsAntisymmetric nat_cmp-IsAntisymmetric) (present m) (present n) (rising-present m rising-m) (rising-present n rising-n)
-      (λ q. sym (lookup-is (present m) q) ∙ get-present m q rising-m ∙ same q ∙ sym (get-present n q rising-n) ∙ lookup-is (present n) q)
+    (λ q. sym (lookup-is (present m) q) ∙ get-present m q rising-m ∙ same q ∙ sym (get-present n q rising-n) ∙ lookup-is (present n) q)

@@ -1,7 +1,6 @@
 -- Locator calls: Length, Read and WriteAppend. What such a call does is a function of the session's own part, of
 -- whether it holds the lock of the locator's row, and of what that row holds.
-use Rattle.std.specs.Prelude.{ℕ, ◌+◌, ◌-◌, ◌==◌, Bool, true, false, not, ◌&&◌, ◌||◌, nat_lt, nat_le, List, [], ◌∷◌, ◌++◌, length, take, drop, Option, Some, None, is_none, unwrap_or}
-use Rattle.std.specs.Option.{option_map_or}
+use Rattle.std.specs.Prelude.{ℕ, ◌+◌, ◌-◌, ◌==◌, Bool, true, false, not, ◌&&◌, ◌||◌, nat_lt, List, [], ◌∷◌, ◌++◌, length, take, drop, Option, Some, is_none, unwrap_or}
 use Rattle.sf_types.specs.declared.reply.Fault.{Fault}
 use Rattle.sf_types.specs.declared.reply.Fault.TheVariants as fault
 use Rattle.sf_types.specs.declared.reply.Reply.{Reply}
@@ -113,4 +112,4 @@ abbrev pub write_append : Session → Bool → Option Value → List ℕ → Lis
 write_append p is_held current at buffer =
     let value = old_value p current at in
     refused_or (first_of (writing_refusals p is_held current at ++ append_refusals value buffer)) p
-      (written p at (appended value buffer), reply.Done)
+    (written p at (appended value buffer), reply.Done)

@@ -1,5 +1,5 @@
 -- Row calls: Insert and Lock.
-use Rattle.std.specs.Prelude.{ℕ, Bool, false, List, [], ◌∷◌, Option, Some, None, is_some, is_none, unwrap_or}
+use Rattle.std.specs.Prelude.{ℕ, false, List, [], ◌∷◌, Option, Some, is_some, is_none, unwrap_or}
 use Rattle.sf_types.specs.declared.reply.Fault.{Fault}
 use Rattle.sf_types.specs.declared.reply.Fault.TheVariants as fault
 use Rattle.sf_types.specs.declared.reply.Reply.{Reply}
@@ -54,4 +54,4 @@ abbrev pub lock : Table → ℕ → Session → List ℕ → List ℕ → Table 
 lock t s p to row =
     let value = unwrap_or (row_value p (current t row) row) empty_value in
     refused_or (lock_refusal t s p to row) t
-      (record (with_session t s (locked p to row value)) { locks = with_lock t.locks s row }, Done)
+    (record (with_session t s (locked p to row value)) { locks = with_lock t.locks s row }, Done)

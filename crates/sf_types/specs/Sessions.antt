@@ -1,10 +1,10 @@
 -- The sessions of a table, their transactions and their locks.
-use Rattle.std.specs.Prelude.{ℕ, ◌+◌, ◌-◌, ◌==◌, Bool, true, false, not, ◌&&◌, nat_le, List, length, filter, slice_get, slice_set, Option, Some, None, unwrap_or, if◌then◌else◌}
+use Rattle.std.specs.Prelude.{ℕ, ◌+◌, ◌-◌, ◌==◌, Bool, true, false, not, ◌&&◌, nat_le, List, length, filter, slice_get, slice_set, Option, unwrap_or, if◌then◌else◌}
 use Rattle.std.specs.Option.{option_map_or}
 use Rattle.sf_types.specs.Limits.{locators_per_session}
 use Rattle.sf_types.specs.NameMaps.{NameMap, get, has, put}
 use Rattle.sf_types.specs.Values.{Value}
-use Rattle.sf_types.specs.Table.{Locator, Session, Table, new_session}
+use Rattle.sf_types.specs.Table.{Session, Table, new_session}
 
 -- Sessions are numbered from 1.
 abbrev pub has_session : Table → ℕ → Bool

@@ -1,5 +1,5 @@
 -- What rows hold after some commits.
-use Rattle.std.specs.Prelude.{ℕ, List, [], ◌∷◌, ◌++◌, take, length, Option, Some, None}
+use Rattle.std.specs.Prelude.{ℕ, List, [], ◌∷◌, take, length, Option, Some, None}
 use Rattle.std.specs.List.{filter_map}
 use Rattle.sf_types.specs.NameMaps.{NameMap, get, put}
 use Rattle.sf_types.specs.Values.{Value}

@@ -6,21 +6,42 @@ use crate::name::{LocName, Name};
 #[derive(Drop)]
 pub enum Call {
     /// Makes a row with an empty value.
-    Insert { row: Name },
+    Insert {
+        row: Name,
+    },
     /// Takes a row away.
-    Delete { row: Name },
+    Delete {
+        row: Name,
+    },
     /// Locks a row and sets a locator to its value.
-    Lock { to: LocName, row: Name },
+    Lock {
+        to: LocName,
+        row: Name,
+    },
     /// Sets a locator to a row's value.
-    Select { to: LocName, row: Name },
+    Select {
+        to: LocName,
+        row: Name,
+    },
     /// Sets a locator to the value that a row had after the first `commit` commits.
-    SelectAsOf { to: LocName, row: Name, commit: u64 },
+    SelectAsOf {
+        to: LocName,
+        row: Name,
+        commit: u64,
+    },
     /// Sets a locator to a copy of another.
-    Assign { to: LocName, from: LocName },
+    Assign {
+        to: LocName,
+        from: LocName,
+    },
     /// Takes a locator away.
-    Free { at: LocName },
+    Free {
+        at: LocName,
+    },
     /// GETLENGTH.
-    Length { at: LocName },
+    Length {
+        at: LocName,
+    },
     /// READ.
     Read {
         at: LocName,
@@ -48,9 +69,15 @@ pub enum Call {
         bytes: Blob,
     },
     /// WRITEAPPEND.
-    WriteAppend { at: LocName, bytes: Blob },
+    WriteAppend {
+        at: LocName,
+        bytes: Blob,
+    },
     /// APPEND.
-    Append { at: LocName, from: LocName },
+    Append {
+        at: LocName,
+        from: LocName,
+    },
     /// COPY.
     Copy {
         at: LocName,
@@ -66,7 +93,10 @@ pub enum Call {
         offset: u64,
     },
     /// TRIM.
-    Trim { at: LocName, length: u64 },
+    Trim {
+        at: LocName,
+        length: u64,
+    },
     /// FRAGMENT_INSERT.
     FragInsert {
         at: LocName,
@@ -94,11 +124,18 @@ pub enum Call {
         bytes: Blob,
     },
     /// SETOPTIONS, which turns sharing on or off for one object.
-    SetOptions { at: LocName, share: bool },
+    SetOptions {
+        at: LocName,
+        share: bool,
+    },
     /// Sets a savepoint.
-    Savepoint { name: LocName },
+    Savepoint {
+        name: LocName,
+    },
     /// Undoes the work since a savepoint.
-    RollbackTo { name: LocName },
+    RollbackTo {
+        name: LocName,
+    },
     /// Ends the transaction and keeps its work.
     Commit,
     /// Ends the transaction and drops its work.

@@ -1,6 +1,5 @@
-use Rattle.std.proofs.Common.{◌≡◌, ℕ, rules, not, eqb}
+use Rattle.std.proofs.Common.{rules, not, eqb}
 use Rattle.std.proofs.lemmas.Map.Made.{filter_same_pairs}
-use Rattle.sf_types.specs.Sessions.{released}
 use Rattle.sf_model.proofs.plain.release_all.Goals as goal
 
 pub returns : goal.returns

@@ -1,5 +1,4 @@
-use Rattle.std.proofs.Common.{◌≡◌, List, [], ◌∷◌, ◌++◌, Some, ◌∙◌}
-use Rattle.sf_types.specs.NameMaps.{get}
+use Rattle.std.proofs.Common.{◌≡◌, [], ◌∷◌, ◌++◌, Some, ◌∙◌}
 use Rattle.std.proofs.lemmas.List.Elements.{All-pop}
 use Rattle.sf_model.proofs.Said.{IsThere, keeps-put, there-kept, said-pop}
 use Rattle.sf_model.proofs.rows.say_all.Goals as goal

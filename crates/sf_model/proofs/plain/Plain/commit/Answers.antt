@@ -1,5 +1,4 @@
-use Rattle.std.proofs.Common.{◌≡◌, ◌+◌, ◌++◌, ◌∷◌, [], List, ℕ, length, true, false, sym, ap, ◌∙◌}
-use Rattle.std.proofs.lemmas.List.{length_push}
+use Rattle.std.proofs.Common.{◌≡◌, ◌+◌, ◌++◌, ◌∷◌, [], List, sym, ap, ◌∙◌}
 use Rattle.sf_types.specs.NameMaps.{get}
 use Rattle.sf_types.specs.Table.{Rows}
 use Rattle.sf_types.specs.Sessions.{session_of}
@@ -36,4 +35,4 @@ returns-clause-ok c =
     let commits : c.push.new.self.items ≡ old ++ (session_of t s).working ∷ [] = c.in-Ok.ensures.items ∙ ap (λ (cs : List Rows). cs ++ c.commit.result ∷ []) c.reserve.ensures.items ∙ ap (λ (w : Rows). old ++ w ∷ []) (c.commit.ensures.working ∙ ap (λ p. p.working) part) in
     let count : c.len-count.result ≡ now t + 1 = c.len-count.ensures ∙ c.in-Ok.ensures.len ∙ ap (λ n. n + 1) (c.reserve.ensures.len ∙ c.self.inside.commits.ok.0) in
     rw (← c.self.view_is)
-      (commit_done t s c.len-count.result c.floor_after-self-inside.result c.push.new.self.items c.release_all.new.locks c.commit.new.self opened commits count (c.floor_after-self-inside.ensures ∙ ap (floor_after t.options t.floor) count) c.release_all.ensures (c.commit.ensures.part ∙ ap committed part))
+    (commit_done t s c.len-count.result c.floor_after-self-inside.result c.push.new.self.items c.release_all.new.locks c.commit.new.self opened commits count (c.floor_after-self-inside.ensures ∙ ap (floor_after t.options t.floor) count) c.release_all.ensures (c.commit.ensures.part ∙ ap committed part))

@@ -12,4 +12,4 @@ returns-clause-ok c =
     let has = rw (← c.self.view_is) at c.requires in
     let part = session_at t c.args.session c.index_mut-part.result.now has c.index_mut-part.ensures.value in
     rw (← c.self.view_is)
-      (insert_done t c.args.session c.args.row.now _ _ busy there c.in_ok-insert_into.ensures.locks (c.in_ok-insert_into.ensures.part ∙ ap (λ p. inserted p c.args.row.now) part))
+    (insert_done t c.args.session c.args.row.now _ _ busy there c.in_ok-insert_into.ensures.locks (c.in_ok-insert_into.ensures.part ∙ ap (λ p. inserted p c.args.row.now) part))

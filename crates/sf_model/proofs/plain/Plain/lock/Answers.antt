@@ -19,4 +19,4 @@ returns-clause-ok c =
     let has = rw (← c.self.view_is) at c.requires in
     let part = session_at t s c.index_mut-part.result.now has c.index_mut-part.ensures.value in
     rw (← c.self.view_is)
-      (lock_done t s to row c.in-Some.value _ _ (rw (← c.self.view_is) at lacks) busy (rw (← c.self.view_is) at there) c.in_ok-lock_into.ensures.locks (c.in_ok-lock_into.ensures.part ∙ ap (λ p. locked p to row c.in-Some.value) part))
+    (lock_done t s to row c.in-Some.value _ _ (rw (← c.self.view_is) at lacks) busy (rw (← c.self.view_is) at there) c.in_ok-lock_into.ensures.locks (c.in_ok-lock_into.ensures.part ∙ ap (λ p. locked p to row c.in-Some.value) part))

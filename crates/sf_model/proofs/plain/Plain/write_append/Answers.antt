@@ -1,5 +1,5 @@
-use Rattle.std.proofs.Common.{◌≡◌, None, Some, sym, ap, ◌∙◌}
-use Rattle.std.specs.Option.{option_copied, option_map}
+use Rattle.std.proofs.Common.{sym, ap, ◌∙◌}
+use Rattle.std.specs.Option.{option_copied}
 use Rattle.sf_types.specs.declared.reply.Fault.TheVariants as fault
 use Rattle.sf_types.specs.declared.reply.Reply.TheVariants as reply
 use Rattle.sf_types.specs.Sessions.{session_of, holds}
@@ -18,7 +18,7 @@ returns-in_default-clause-ok c =
     let row = (locator p at).row in
     let none = none_named (named p at) (sym c.in_ok-row.ensures ∙ c.in_default.is) in
     put_own t s (reply.Refused fault.UnknownLocator) (write_append p (holds t.locks s row) (current t row) at c.args.buffer.now) c.requires
-      (append_unknown p (holds t.locks s row) (current t row) at c.args.buffer.now none)
+    (append_unknown p (holds t.locks s row) (current t row) at c.args.buffer.now none)
 
 pub returns-clause-ok : goal.returns-clause-ok
 returns-clause-ok c =
@@ -31,4 +31,4 @@ returns-clause-ok c =
     let found = rw (← c.self.view_is) at (sym c.in_ok-row.ensures ∙ c.in-Some.is) in
     let done = c.in_ok-reply.ensures.ok ∙ ap (λ p. write_append p c.holds-is_held.result value c.args.at.now c.args.buffer.now) part in
     rw (← c.self.view_is)
-      (append_done t s c.args.at.now c.args.buffer.now row c.holds-is_held.result value _ c.in_ok-reply.reply done c.holds-is_held.ensures (c.said_value-current.ensures ∙ c.self.invariant.same row) (row_of_named (named (session_of t s) c.args.at.now) row found))
+    (append_done t s c.args.at.now c.args.buffer.now row c.holds-is_held.result value _ c.in_ok-reply.reply done c.holds-is_held.ensures (c.said_value-current.ensures ∙ c.self.invariant.same row) (row_of_named (named (session_of t s) c.args.at.now) row found))

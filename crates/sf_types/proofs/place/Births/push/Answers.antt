@@ -1,6 +1,4 @@
 use Rattle.sf_types.proofs.RisingBirths.{IsRising-push}
-use Rattle.std.proofs.Common.{subst, sym, ◌∙◌, List, ℕ}
-use Rattle.sf_types.specs.Births.{IsRising, IsAboveAll}
 use Rattle.sf_types.proofs.place.Births.push.Goals as goal
 
 pub invariant_of-self-2 : goal.invariant_of-self-2

@@ -1,0 +1,36 @@
+//! How the program ends.
+ghost use Rattle.std.specs.Prelude.{◌≡◌};
+ghost use Rattle.securefiles_cli.specs.StatusNumbers.{number_of};
+
+/// How the program ends. The numbers are this project's own.
+#[derive(Clone, Copy, Debug, PartialEq, Eq)]
+pub enum Status {
+    /// The whole output was taken.
+    Done,
+    /// The words are no command; the usage line was taken.
+    Usage,
+    /// The input is no script; the line that says so was taken.
+    ScriptRefused,
+    /// The source failed; nothing was written.
+    ReadFault,
+    /// The sink failed; a front of the output was taken.
+    WriteFault,
+    /// Want of memory; nothing was written.
+    OutOfMemory,
+}
+
+impl Status {
+    /// The status with which the process ends.
+    pub fn number(self) -> u8
+        ensures { result ≡ number_of self }
+    {
+        match self {
+            Status::Done => 0,
+            Status::Usage => 2,
+            Status::ScriptRefused => 3,
+            Status::ReadFault => 4,
+            Status::WriteFault => 5,
+            Status::OutOfMemory => 8,
+        }
+    }
+}
