@@ -1,3 +1,4 @@
+pub mod Answered
 pub mod LiveSteps
 pub mod Played
 pub mod Reading

@@ -1,7 +1,9 @@
 -- What the program answers.
-use Rattle.std.specs.Prelude.{◌≡◌, ℕ, ◌<◌, Bool, true, false, ◌&&◌, IsTrue, List, [], ◌∷◌, ◌++◌, codes, Option, Some, IfSome, Result, Ok, Err, String, string_bytes, if◌then◌else◌}
+use Rattle.std.specs.Prelude.{◌≡◌, ℕ, ◌<◌, ◌⊎◌, Bool, true, false, ◌&&◌, IsTrue, List, [], ◌∷◌, ◌++◌, codes, Option, Some, IfSome, Result, Ok, Err, String, string_bytes, if◌then◌else◌}
 use Rattle.std.specs.Str.{bytes_eq}
 use Rattle.std.specs.Fmt.{decimal}
+use Rattle.std.specs.declared.alloc.Global.{Global}
+use Rattle.sf_outside.specs.Causes.{Rose}
 use Rattle.sf_outside.specs.Sink.{GrowsBy}
 use Rattle.sf_script.specs.Faults.{word_of}
 use Rattle.sf_script.specs.Parts.{ScriptParts}
@@ -13,7 +15,7 @@ use Rattle.securefiles_cli.specs.Plays.{transcript_of}
 use Rattle.securefiles_cli.specs.Transcripts.{line}
 
 -- The words are the one word `play`, the only command today.
-abbrev pub is_play : List String → Bool
+abbrev pub is_play : List (String Global) → Bool
 is_play [] = false
 is_play (word ∷ []) = bytes_eq (string_bytes word) (codes "play")
 is_play (word ∷ other ∷ others) = false
@@ -35,10 +37,10 @@ output_of (Ok script) = transcript_of script
 output_of (Err fault) = refusal_line fault
 
 -- The same for any words. The input isn't looked at where the words are no command.
-abbrev pub due_status : List String → List ℕ → Status
+abbrev pub due_status : List (String Global) → List ℕ → Status
 due_status words input = if is_play words then status_of (script_of input) else status.Usage
 
-abbrev pub due_output : List String → List ℕ → List ℕ
+abbrev pub due_output : List (String Global) → List ℕ → List ℕ
 due_output words input = if is_play words then output_of (script_of input) else usage_line
 
 -- The headline of `play`: the source was read to its end, its bytes are a script, and what the sink took is the
@@ -49,3 +51,32 @@ pub record IsPlayedOut (input : List ℕ) (left before after : Option (List ℕ)
   pub ended : left ≡ Some []
   pub reads : script_of input ≡ Ok script
   pub written : GrowsBy before after (transcript_of script)
+
+-- A refused script: the bytes of the source are no script, and what the sink took is the line that says so.
+pub record IsRefusedOut (input : List ℕ) (before after : Option (List ℕ)) : Type 0 where
+  pub fault : ScriptFault
+  pub reads : script_of input ≡ Err fault
+  pub written : GrowsBy before after (refusal_line fault)
+
+-- Where the answer stops before the output, memory was wanted, or the source failed and its count of faults rose.
+abbrev pub IsStop : ℕ → ℕ → Status → Type 0
+IsStop before now status.OutOfMemory = Unit {0}
+IsStop before now status.ReadFault = Rose before now
+IsStop before now status.Done = ⊥
+IsStop before now status.Usage = ⊥
+IsStop before now status.ScriptRefused = ⊥
+IsStop before now status.WriteFault = ⊥
+
+-- An answer of the words alone: `play` is never answered by the usage line, and other words always are.
+pub record IsOfWords (words : List (String Global)) (answer : Status) (text : List ℕ) : Type 0 where
+  pub play : IsTrue (is_play words) → (answer ≡ status.Done) ⊎ (answer ≡ status.ScriptRefused)
+  pub others : is_play words ≡ false → (answer ≡ status.Usage) × (text ≡ usage_line)
+
+-- The status is the one that is due, or a fault of the source or of the sink, or want of memory.
+abbrev pub IsDue : Status → Status → Type 0
+IsDue status.OutOfMemory due = Unit {0}
+IsDue status.ReadFault due = Unit {0}
+IsDue status.WriteFault due = Unit {0}
+IsDue status.Done due = due ≡ status.Done
+IsDue status.Usage due = due ≡ status.Usage
+IsDue status.ScriptRefused due = due ≡ status.ScriptRefused

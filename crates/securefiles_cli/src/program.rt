@@ -1,5 +1,5 @@
 //! The top call.
-ghost use Rattle.std.specs.Prelude.{◌≡◌, ◌≢◌, ◌++◌, ◌≤◌, ◌<◌, [], ◌∷◌, length, IsTrue, Some, IfSome, IfOk, OnOk, false, codes};
+ghost use Rattle.std.specs.Prelude.{◌≡◌, ◌≢◌, ◌++◌, ◌≤◌, ◌<◌, [], ◌∷◌, length, IsTrue, Some, IfSome, IfOk, IfErr, OnOk, false, codes};
 ghost use Rattle.std.specs.Fmt.{decimal};
 ghost use Rattle.sf_outside.specs.Causes.{Rose};
 ghost use Rattle.sf_outside.specs.Sink.{GrowsBy};
@@ -7,7 +7,7 @@ ghost use Rattle.sf_script.specs.Scripts.{script_of};
 ghost use Rattle.securefiles_cli.specs.declared.status.Status.TheVariants as status;
 ghost use Rattle.securefiles_cli.specs.Outputs.{GrowsByFront};
 ghost use Rattle.securefiles_cli.specs.Transcripts.{line};
-ghost use Rattle.securefiles_cli.specs.Program.{is_play, usage_line, refusal_line, status_of, output_of, due_status, due_output, IsPlayedOut};
+ghost use Rattle.securefiles_cli.specs.Program.{is_play, usage_line, refusal_line, status_of, output_of, due_status, due_output, IsOfWords, IsStop, IsDue, IsPlayedOut, IsRefusedOut};
 
 use crate::input::{ReadError, read_input};
 use crate::output::write_output;
@@ -72,5 +72,70 @@ fn answer_play(alloc: Global, input: &[u8]) -> Mem<Answer>
             status: Status::ScriptRefused,
             text: refusal(alloc, &fault)?,
         }),
+    }
+}
+
+// The answer to any words, for which the input is read where they are `play`. None is given for want of memory or
+// where the source failed; the status says which.
+fn answer_words<S: Source>(alloc: Global, words: &[String], source: &mut S) -> Result<Answer, Status>
+    ensures due { IfSome (S.left source.old) (λ input. IfOk result (λ answer.
+        (answer.status ≡ due_status words.now input) × (answer.text.items ≡ due_output words.now input))) }
+    ensures words { IfOk result (λ answer. IsOfWords words.now answer.status answer.text.items) }
+    ensures ended { IfSome (S.left source.old) (λ _. IfOk result (λ answer. answer.status ≡ status.Done → S.left source.new ≡ Some [])) }
+    ensures stopped { IfErr result (IsStop (S.faults source.old) (S.faults source.new)) }
+    ensures later { S.faults source.old ≤ S.faults source.new }
+{
+    if !is_play(words) {
+        return Ok(Answer {
+            status: Status::Usage,
+            text: usage(alloc)?,
+        });
+    }
+    let input = match read_input(alloc, source) {
+        Ok(input) => input,
+        Err(ReadError::Memory) => return Err(Status::OutOfMemory),
+        Err(ReadError::Failed) => return Err(Status::ReadFault),
+    };
+    let answer = answer_play(alloc, &input)?;
+    Ok(answer)
+}
+
+/// Runs the program on its words: reads the source where they ask for it, and writes the answer to the sink. It waits
+/// for nobody and returns.
+pub fn securefiles_plain<S: Source, K: Sink>(
+    alloc: Global,
+    words: &[String],
+    source: &mut S,
+    sink: &mut K,
+) -> Status
+    // The headline for `play`.
+    ensures done { result ≡ status.Done → IfSome (S.left source.old) (λ input.
+        IsPlayedOut input (S.left source.new) (K.taken sink.old) (K.taken sink.new)) }
+    ensures done_words { result ≡ status.Done → IsTrue (is_play words.now) }
+
+    // Why a script is refused, and what is written then.
+    ensures script_refused { result ≡ status.ScriptRefused → IsTrue (is_play words.now) × IfSome (S.left source.old) (λ input.
+        IsRefusedOut input (K.taken sink.old) (K.taken sink.new)) }
+
+    // The words are no command.
+    ensures usage { result ≡ status.Usage → (is_play words.now ≡ false) × GrowsBy (K.taken sink.old) (K.taken sink.new) usage_line }
+
+    // A fault was counted in this call, and what was written then.
+    ensures read_fault { result ≡ status.ReadFault → Rose (S.faults source.old) (S.faults source.new) × (K.taken sink.new ≡ K.taken sink.old) }
+    ensures write_fault { result ≡ status.WriteFault → Rose (K.faults sink.old) (K.faults sink.new) × IfSome (S.left source.old) (λ input.
+        GrowsByFront (K.taken sink.old) (K.taken sink.new) (due_output words.now input)) }
+    ensures memory { result ≡ status.OutOfMemory → K.taken sink.new ≡ K.taken sink.old }
+
+    // Every status has its cause.
+    ensures due { IfSome (S.left source.old) (λ input. IsDue result (due_status words.now input)) }
+    ensures later { (S.faults source.old ≤ S.faults source.new) × (K.faults sink.old ≤ K.faults sink.new) }
+{
+    let answer = match answer_words(alloc, words, source) {
+        Ok(answer) => answer,
+        Err(status) => return status,
+    };
+    match write_output(sink, &answer.text) {
+        Ok(()) => answer.status,
+        Err(_) => Status::WriteFault,
     }
 }

@@ -1,6 +1,5 @@
 //! How the program ends.
-ghost use Rattle.std.specs.Prelude.{◌≡◌};
-ghost use Rattle.securefiles_cli.specs.StatusNumbers.{number_of};
+use sf_types::OutOfMemory;
 
 /// How the program ends. The numbers are this project's own.
 #[derive(Clone, Copy, Debug, PartialEq, Eq)]
@@ -19,7 +18,21 @@ pub enum Status {
     OutOfMemory,
 }
 
+impl From<OutOfMemory> for Status {
+    ghost use Rattle.std.specs.Prelude.{◌≡◌};
+    ghost use Rattle.securefiles_cli.specs.declared.status.Status.TheVariants as statuses;
+
+    ghost from_gives = { λ _ status. status ≡ statuses.OutOfMemory };
+
+    fn from(_error: OutOfMemory) -> Status {
+        Status::OutOfMemory
+    }
+}
+
 impl Status {
+    ghost use Rattle.std.specs.Prelude.{◌≡◌};
+    ghost use Rattle.securefiles_cli.specs.StatusNumbers.{number_of};
+
     /// The status with which the process ends.
     pub fn number(self) -> u8
         ensures { result ≡ number_of self }

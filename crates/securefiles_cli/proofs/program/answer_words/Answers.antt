@@ -1,0 +1,25 @@
+use Rattle.std.proofs.Common.{◌≡◌, true, ap, sym, ◌∙◌}
+use Rattle.sf_script.specs.Scripts.{script_of}
+use Rattle.securefiles_cli.specs.Program.{is_play, status_of, output_of}
+use Rattle.securefiles_cli.specs.Inputs.{IsRead}
+use Rattle.securefiles_cli.proofs.Answered.{if_some, script_read, script_ended}
+use Rattle.securefiles_cli.proofs.program.answer_words.Goals as goal
+
+pub returns-clause-due : goal.returns-clause-due
+returns-clause-due g c =
+    let after = g.S.Source.left c.read_input.new.source in
+    let bytes = c.in-Ok.input.items in
+    let play : is_play c.args.words.now ≡ true = sym c.is_play.ensures ∙ c.if-not-is_play.false in
+    if_some (g.S.Source.left c.args.source.now) (λ all. IsRead all after bytes) _
+      (λ input read.
+        let same = ap script_of c.deref.ensures.value ∙ script_read input bytes after read in
+        (rw play (c.in_ok-answer.ensures.status ∙ ap status_of same), rw play (c.in_ok-answer.ensures.text ∙ ap output_of same)))
+      c.in-Ok.ensures.read
+
+pub returns-clause-ended : goal.returns-clause-ended
+returns-clause-ended g c =
+    let after = g.S.Source.left c.read_input.new.source in
+    let bytes = c.in-Ok.input.items in
+    if_some (g.S.Source.left c.args.source.now) (λ all. IsRead all after bytes) _
+      (λ input read done. script_ended input bytes after read (ap (λ xs. status_of (script_of xs)) (sym c.deref.ensures.value) ∙ sym c.in_ok-answer.ensures.status ∙ done))
+      c.in-Ok.ensures.read
