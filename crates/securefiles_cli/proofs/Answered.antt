@@ -1,14 +1,12 @@
 -- What was read is as good as the whole input.
-use Rattle.std.proofs.Common.{◌≡◌, ℕ, ◌+◌, ◌<◌, ◌≤◌, Bool, true, false, cond, IsTrue, ltb, List, [], ◌∷◌, ◌++◌, length, Option, Some, None, IfSome, Result, Ok, Err, refl, sym, ap, subst, ◌∙◌, arith, inl, inr}
+use Rattle.std.proofs.Common.{◌≡◌, ℕ, ◌+◌, ◌≤◌, true, List, [], ◌++◌, length, Option, Some, None, IfSome, refl, sym, ap, ◌∙◌, arith, inl, inr}
 use Rattle.std.proofs.lemmas.Bool.Decides.{nat_tests}
 use Rattle.std.proofs.lemmas.List.{append-nil, length-append}
 use Rattle.std.specs.Prelude.{nat_lt}
 use Rattle.sf_script.specs.declared.fault.Reason.TheVariants.{Size}
-use Rattle.sf_script.specs.declared.fault.ScriptFault.{ScriptFault}
-use Rattle.sf_script.specs.Parts.{ScriptParts}
 use Rattle.sf_script.specs.Scripts.{refused, script_of}
 use Rattle.securefiles_cli.specs.declared.status.Status.TheVariants as status
-use Rattle.securefiles_cli.specs.Inputs.{IsRead, read_limit}
+use Rattle.securefiles_cli.specs.Inputs.{IsRead}
 use Rattle.securefiles_cli.specs.Program.{status_of}
 
 -- a fact for the value that is there, from another
@@ -29,8 +27,8 @@ script_read input bytes after read =
     elim read.whole [
       | inl none ↦ ap script_of (sym (read.parts ∙ ap (λ (xs : List ℕ). bytes ++ xs) none ∙ append-nil bytes))
       | inr full ↦
-        let more : length input ≡ length bytes + length read.rest = ap length read.parts ∙ length-append bytes read.rest in
-        too_long bytes (omega arith) ∙ sym (too_long input (omega arith))
+          let more : length input ≡ length bytes + length read.rest = ap length read.parts ∙ length-append bytes read.rest in
+          too_long bytes (omega arith) ∙ sym (too_long input (omega arith))
     ]
 
 -- a script was read to the end of the input

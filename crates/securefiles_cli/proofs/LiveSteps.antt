@@ -1,5 +1,5 @@
 -- Session 1 goes on calling.
-use Rattle.std.proofs.Common.{◌≡◌, ℕ, zero, suc, ◌≤◌, Bool, true, false, ◌&&◌, cond, IsTrue, List, [], ◌∷◌, ◌++◌, ◌+◌, length, replicate, Option, Some, None, refl, sym, ap, subst, ◌∙◌, arith}
+use Rattle.std.proofs.Common.{◌≡◌, ℕ, zero, suc, ◌≤◌, Bool, true, false, ◌&&◌, cond, List, [], ◌∷◌, ◌++◌, ◌+◌, length, replicate, Option, Some, None, refl, sym, subst, arith}
 use Rattle.std.specs.Prelude.{nat_le, slice_get, slice_set, unwrap_or}
 use Rattle.std.proofs.lemmas.Bool.Decides.{nat_tests}
 use Rattle.sf_types.specs.declared.call.Call.{Call}
@@ -8,8 +8,8 @@ use Rattle.sf_types.specs.declared.history.Kind.TheVariants as kind
 use Rattle.sf_types.specs.declared.options.Options.{Options}
 use Rattle.sf_types.specs.declared.reply.Fault.{Fault}
 use Rattle.sf_types.specs.declared.reply.Reply.{Reply}
-use Rattle.sf_types.specs.Table.{Session, Table, Promise, new_session, opening}
-use Rattle.sf_types.specs.Sessions.{has_session, session_of, with_session, row_value, holds, with_lock}
+use Rattle.sf_types.specs.Table.{Session, Table, new_session, opening}
+use Rattle.sf_types.specs.Sessions.{session_of, with_session, row_value, holds, with_lock}
 use Rattle.sf_types.specs.declared.reply.Reply.TheVariants as reply
 use Rattle.sf_types.specs.Values.{empty_value, size_of}
 use Rattle.sf_types.specs.Versions.{now, current}
@@ -111,6 +111,6 @@ live_step t call.Commit stands live =
     let p = session_of t 1 in
     let q : Session = record p { savepoints = [] } in
     live_if p.is_open (with_commit t 1 p, reply.Committed (now t + 1)) (with_session t 1 q, reply.Committed (now t))
-      (live_with t (with_commit t 1 p) (committed p) live refl (record { goes_on = live.goes_on; free = live.free }))
-      (live_with t (with_session t 1 q) q live refl (record { goes_on = live.goes_on; free = live.free }))
+    (live_with t (with_commit t 1 p) (committed p) live refl (record { goes_on = live.goes_on; free = live.free }))
+    (live_with t (with_session t 1 q) q live refl (record { goes_on = live.goes_on; free = live.free }))
 live_step t _ stands live = absurd cc

@@ -1,5 +1,5 @@
 -- The play of session 1's calls, one after the other.
-use Rattle.std.proofs.Common.{◌≡◌, ℕ, zero, suc, ◌+◌, ◌<◌, Bool, true, false, ◌&&◌, List, [], ◌∷◌, ◌++◌, map, length, get_or, drop, replicate, refl, sym, ap, subst, ◌∙◌, append_assoc, arith}
+use Rattle.std.proofs.Common.{◌≡◌, ℕ, zero, suc, ◌+◌, ◌<◌, Bool, true, false, ◌&&◌, List, [], ◌∷◌, ◌++◌, map, length, get_or, drop, replicate, refl, sym, ap, ◌∙◌, append_assoc, arith}
 use Rattle.std.specs.List.{list_all}
 use Rattle.std.proofs.lemmas.List.{drop_more}
 use Rattle.sf_types.specs.declared.call.Call.{Call}
@@ -40,7 +40,7 @@ next_call calls i x lt is = drop_more calls i x lt ∙ ap (λ (y : Call). y ∷ 
 pub told_more : (t u : Table) (x : Call) (calls rest : List Call) (out more total : List Reply) → calls ≡ x ∷ rest → u ≡ (step t 1 x).0 → more ≡ out ++ (step t 1 x).1 ∷ [] → out ++ told_to t calls ≡ total → more ++ told_to u rest ≡ total
 told_more t u x calls rest out more total calls-is u-is more-is so_far =
     rw (more-is, u-is)
-      (append_assoc out ((step t 1 x).1 ∷ []) (told_to (step t 1 x).0 rest) ∙ ap (λ (cs : List Call). out ++ told_to t cs) (sym calls-is) ∙ so_far)
+    (append_assoc out ((step t 1 x).1 ∷ []) (told_to (step t 1 x).0 rest) ∙ ap (λ (cs : List Call). out ++ told_to t cs) (sym calls-is) ∙ so_far)
 
 pub left_more : (t u : Table) (x : Call) (calls rest : List Call) (end : Table) → calls ≡ x ∷ rest → u ≡ (step t 1 x).0 → left_by t calls ≡ end → left_by u rest ≡ end
 left_more t u x calls rest end calls-is u-is so_far = rw u-is (ap (left_by t) (sym calls-is) ∙ so_far)

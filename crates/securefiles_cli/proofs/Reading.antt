@@ -1,7 +1,6 @@
 -- A loop that reads an input.
-use Rattle.std.proofs.Common.{◌≡◌, ◌≤◌, ℕ, ◌+◌, ◌-◌, List, [], ◌++◌, length, take, drop, Option, Some, None, IfSome, refl, sym, ap, ◌∙◌, arith, inl, inr}
+use Rattle.std.proofs.Common.{◌≡◌, ℕ, List, [], ◌++◌, length, Option, Some, None, IfSome, refl, sym, ap, ◌∙◌, inl, inr}
 use Rattle.sf_outside.specs.Source.{GivesFirst, Gave}
-use Rattle.sf_outside.proofs.SourceLemmas.{gave_both, gave_by_read}
 use Rattle.securefiles_cli.specs.Inputs.{IsRead, read_limit}
 
 -- as many bytes as are read at most

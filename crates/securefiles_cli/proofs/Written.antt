@@ -1,7 +1,6 @@
 -- A loop that writes a text.
-use Rattle.std.proofs.Common.{◌≡◌, ◌≤◌, ℕ, ◌+◌, ◌^◌, ◌-◌, min, List, [], ◌++◌, length, take, drop, Option, Some, refl, sym, ap, ◌∙◌, append_assoc, arith}
+use Rattle.std.proofs.Common.{◌≡◌, ◌≤◌, ℕ, List, [], ◌++◌, length, take, drop, Option, refl, sym, ap, ◌∙◌, append_assoc, arith}
 use Rattle.std.proofs.lemmas.List.{append-nil, length-append, take_at, take-append-drop, nil_from_length}
-use Rattle.sf_outside.specs.Causes.{Rose}
 use Rattle.sf_outside.specs.Sink.{GrowsBy}
 use Rattle.sf_outside.proofs.SinkLemmas.{grows_by_nothing, grows_by_both}
 use Rattle.securefiles_cli.specs.Outputs.{GrowsByFront}

@@ -2,7 +2,7 @@
 use Rattle.sf_outside.specs.Causes.{Rose}
 use Rattle.securefiles_cli.specs.declared.input.ReadError.{ReadError}
 use Rattle.securefiles_cli.specs.declared.input.ReadError.TheVariants as errors
-use Rattle.std.specs.Prelude.{◌≡◌, ℕ, ◌≤◌, ◌⊎◌, List, [], ◌++◌, length, Option, Some, IfSome}
+use Rattle.std.specs.Prelude.{◌≡◌, ℕ, ◌⊎◌, List, [], ◌++◌, length, Option, Some}
 
 -- Reading stops after so many bytes, one more than a script may have.
 abbrev pub read_limit : ℕ

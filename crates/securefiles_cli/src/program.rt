@@ -34,7 +34,9 @@ fn usage(alloc: Global) -> Mem<Vec<u8>>
     ensures { IfOk result (λ text. text.items ≡ usage_line) }
 {
     let mut text = Vec::new(alloc);
-    text.extend_from_slice(b"usage: securefiles_cli play | run | check | bench SEED SESSIONS CALLS\n")?;
+    text.extend_from_slice(
+        b"usage: securefiles_cli play | run | check | bench SEED SESSIONS CALLS\n",
+    )?;
     Ok(text)
 }
 
@@ -77,7 +79,11 @@ fn answer_play(alloc: Global, input: &[u8]) -> Mem<Answer>
 
 // The answer to any words, for which the input is read where they are `play`. None is given for want of memory or
 // where the source failed; the status says which.
-fn answer_words<S: Source>(alloc: Global, words: &[String], source: &mut S) -> Result<Answer, Status>
+fn answer_words<S: Source>(
+    alloc: Global,
+    words: &[String],
+    source: &mut S,
+) -> Result<Answer, Status>
     ensures due { IfSome (S.left source.old) (λ input. IfOk result (λ answer.
         (answer.status ≡ due_status words.now input) × (answer.text.items ≡ due_output words.now input))) }
     ensures words { IfOk result (λ answer. IsOfWords words.now answer.status answer.text.items) }

@@ -4,7 +4,9 @@ ghost use Rattle.std.specs.List.{flat_map};
 ghost use Rattle.securefiles_cli.specs.Transcripts.{token_text, order_line, reply_line, reply_lines, session_lines, row_line, line, transcript_text};
 ghost use Rattle.std.specs.Fmt.{decimal};
 
-use sf_types::{Kind, Mem, Played, Reply, ReplyList, RowEnd, Token, push_decimal, push_hex, push_reply};
+use sf_types::{
+    Kind, Mem, Played, Reply, ReplyList, RowEnd, Token, push_decimal, push_hex, push_reply,
+};
 use std::alloc::Global;
 
 fn push_token(text: &mut Vec<u8>, token: &Token) -> Mem<()>

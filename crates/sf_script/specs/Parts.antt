@@ -16,7 +16,6 @@ pub record ScriptParts : Type 0 where
   pub calls : List (List Call)
   pub turns : List Turn
 
--- Whether a call is no End.
 -- A call that may stand in a script today: it has a step, and it is no End.
 abbrev pub can_stand : Call → Bool
 can_stand (calls.Insert row) = true

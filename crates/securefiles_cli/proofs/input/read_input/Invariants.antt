@@ -1,6 +1,5 @@
 use Rattle.std.proofs.Common.{◌≡◌, ◌≤◌, ◌-◌, vec_len}
 use Rattle.sf_outside.specs.Source.{Gave}
-use Rattle.securefiles_cli.specs.Inputs.{read_limit}
 use Rattle.securefiles_cli.proofs.input.read_input.Given as goal
 
 abbrev pub invariant-loop-bytes : goal.invariant-loop-bytes

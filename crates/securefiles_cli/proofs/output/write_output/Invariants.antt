@@ -1,5 +1,4 @@
-use Rattle.std.proofs.Common.{◌≡◌, ◌≤◌, ℕ, List, ◌++◌, length}
-use Rattle.sf_outside.specs.Sink.{GrowsBy}
+use Rattle.std.proofs.Common.{length}
 use Rattle.securefiles_cli.proofs.Written.{IsWritten}
 use Rattle.securefiles_cli.proofs.output.write_output.Given as goal
 

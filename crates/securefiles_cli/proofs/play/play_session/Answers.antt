@@ -1,6 +1,5 @@
 use Rattle.std.proofs.Common.{◌+◌, drop}
 use Rattle.securefiles_cli.proofs.LiveSteps.{live_step}
-use Rattle.securefiles_cli.specs.Live.{IsLive}
 use Rattle.securefiles_cli.proofs.Played.{stands_at, next_call, told_more, left_more}
 use Rattle.securefiles_cli.proofs.play.play_session.Goals as goal
 

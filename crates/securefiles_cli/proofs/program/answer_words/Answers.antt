@@ -11,15 +11,15 @@ returns-clause-due g c =
     let bytes = c.in-Ok.input.items in
     let play : is_play c.args.words.now ≡ true = sym c.is_play.ensures ∙ c.if-not-is_play.false in
     if_some (g.S.Source.left c.args.source.now) (λ all. IsRead all after bytes) _
-      (λ input read.
-        let same = ap script_of c.deref.ensures.value ∙ script_read input bytes after read in
-        (rw play (c.in_ok-answer.ensures.status ∙ ap status_of same), rw play (c.in_ok-answer.ensures.text ∙ ap output_of same)))
-      c.in-Ok.ensures.read
+    (λ input read.
+    let same = ap script_of c.deref.ensures.value ∙ script_read input bytes after read in
+    (rw play (c.in_ok-answer.ensures.status ∙ ap status_of same), rw play (c.in_ok-answer.ensures.text ∙ ap output_of same)))
+    c.in-Ok.ensures.read
 
 pub returns-clause-ended : goal.returns-clause-ended
 returns-clause-ended g c =
     let after = g.S.Source.left c.read_input.new.source in
     let bytes = c.in-Ok.input.items in
     if_some (g.S.Source.left c.args.source.now) (λ all. IsRead all after bytes) _
-      (λ input read done. script_ended input bytes after read (ap (λ xs. status_of (script_of xs)) (sym c.deref.ensures.value) ∙ sym c.in_ok-answer.ensures.status ∙ done))
-      c.in-Ok.ensures.read
+    (λ input read done. script_ended input bytes after read (ap (λ xs. status_of (script_of xs)) (sym c.deref.ensures.value) ∙ sym c.in_ok-answer.ensures.status ∙ done))
+    c.in-Ok.ensures.read

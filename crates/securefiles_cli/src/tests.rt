@@ -1,0 +1,171 @@
+use crate::program::securefiles_plain;
+use crate::status::Status;
+use sf_outside::{MemSink, MemSource};
+use sf_types::{
+    Births, Blob, Call, Choice, Entry, Kind, List, LocName, Name, Options, Reply, Token, TryCopy,
+    reply_text,
+};
+use std::alloc::Global;
+use std::test::*;
+
+const HEADER: &str = "securefiles 1\nsessions 1\n";
+
+const FIRST_PATH: &str =
+    "1: insert a\n1: lock p a\n1: writeappend p \"abc\"\n1: length p\n1: read p 3 1\n1: commit\n";
+
+const FIRST_TRANSCRIPT: &str =
+    "transcript 1\norder 1 1 1 1 1 1 1\n1.1 ok\n1.2 ok\n1.3 ok\n1.4 3\n1.5 x616263\n1.6 commit 1\n1.7 end\nrow a 3 ba7816bf8f01cfea414140de5dae2223b00361a396177a9cb410ff61f20015ad\nnow 1\n";
+
+const EMPTY_TRANSCRIPT: &str = "transcript 1\norder 1\n1.1 end\nnow 0\n";
+
+const REFUSALS: &str = "1: insert a\n1: insert a\n1: lock p b\n1: read q 1 1\n";
+
+const REFUSED_TRANSCRIPT: &str =
+    "transcript 1\norder 1 1 1 1 1\n1.1 ok\n1.2 refused duplicate 1\n1.3 refused no-such-row\n1.4 refused unknown-locator\n1.5 end\nnow 0\n";
+
+const USAGE: &str = "usage: securefiles_cli play | run | check | bench SEED SESSIONS CALLS\n";
+
+// The words, and the status and the output for an input.
+fn ran(alloc: Global, word: &str, input: &str) -> Result<(Status, MemSink), Fail> {
+    let mut words = Vec::new(alloc);
+    words.push(word.to_string(alloc)?)?;
+    let bytes = Vec::from_slice(alloc, input.as_bytes())?;
+    let mut source = MemSource::new(bytes, 7, Vec::new(alloc));
+    let mut sink = MemSink::new(alloc, 1000, 5, Vec::new(alloc))
+        .ok()
+        .ok_or("memory")?;
+    let status = securefiles_plain(alloc, &words, &mut source, &mut sink);
+    Ok((status, sink))
+}
+
+#[test]
+fn plays_scripts(rt: HostRuntime) -> Result<(), Fail> {
+    let alloc = rt.alloc();
+    let rows = [
+        ("play", FIRST_PATH, Status::Done, FIRST_TRANSCRIPT),
+        ("play", "", Status::Done, EMPTY_TRANSCRIPT),
+        ("play", REFUSALS, Status::Done, REFUSED_TRANSCRIPT),
+        (
+            "play",
+            "capacity 5\n",
+            Status::ScriptRefused,
+            "script refused: line 3: place\n",
+        ),
+        (
+            "play",
+            "1: writeappend p \"ab",
+            Status::ScriptRefused,
+            "script refused: line 3: bytes\n",
+        ),
+        ("played", FIRST_PATH, Status::Usage, USAGE),
+    ];
+    for (word, calls, status, output) in rows {
+        let mut input = HEADER.to_string(alloc)?;
+        input.push_str(calls)?;
+        let (ended, sink) = ran(alloc, word, input.as_str())?;
+        assert_eq!(rt; ended, status, "{calls}");
+        assert_eq!(rt; sink.bytes(), output.as_bytes(), "{calls}");
+    }
+    Ok(())
+}
+
+#[test]
+fn refuses_scripts(rt: HostRuntime) -> Result<(), Fail> {
+    let alloc = rt.alloc();
+    let rows = [
+        ("", "script refused: line 1: short\n"),
+        (
+            "securefiles 1\ncapacity 5\n",
+            "script refused: line 2: later\n",
+        ),
+        (
+            "securefiles 1\nsessions 2\n",
+            "script refused: line 2: later\n",
+        ),
+    ];
+    for (input, line) in rows {
+        let (ended, sink) = ran(alloc, "play", input)?;
+        assert_eq!(rt; ended, Status::ScriptRefused, "{input}");
+        assert_eq!(rt; sink.bytes(), line.as_bytes(), "{input}");
+    }
+    Ok(())
+}
+
+// The first path with a source whose second read fails, and with a sink whose first write fails.
+#[test]
+fn faults_are_told(rt: HostRuntime) -> Result<(), Fail> {
+    let alloc = rt.alloc();
+    let mut words = Vec::new(alloc);
+    words.push("play".to_string(alloc)?)?;
+    for (failing_reads, failing_writes, status) in [
+        (2, 0, Status::ReadFault),
+        (0, 1, Status::WriteFault),
+    ] {
+        let mut input = Vec::from_slice(alloc, HEADER.as_bytes())?;
+        input.extend_from_slice(FIRST_PATH.as_bytes())?;
+        let reads = Vec::from_slice(alloc, &[failing_reads])?;
+        let writes = Vec::from_slice(alloc, &[failing_writes])?;
+        let mut source = MemSource::new(input, 10, reads);
+        let mut sink = MemSink::new(alloc, 264, 10, writes).ok().ok_or("memory")?;
+        let ended = securefiles_plain(alloc, &words, &mut source, &mut sink);
+        assert_eq!(rt; ended, status);
+        assert_eq!(rt; sink.bytes().len(), 0);
+    }
+    Ok(())
+}
+
+// Each call of the plain types that takes memory, once with ample memory.
+#[test]
+fn plain_types_are_made(rt: HostRuntime) -> Result<(), Fail> {
+    let alloc = rt.alloc();
+    let name = Name::new(alloc, b"row-1")
+        .ok()
+        .ok_or("memory")?
+        .ok_or("a name")?;
+    let at = LocName::new(alloc, b"p")
+        .ok()
+        .ok_or("memory")?
+        .ok_or("a name")?;
+    assert!(rt;
+        LocName::new(alloc, b"seventeen-letters")
+            .ok()
+            .ok_or("memory")?
+            .is_none()
+    );
+    let bytes = Blob::new(alloc, &[1, 171]).ok().ok_or("memory")?;
+    let reply = Reply::Bytes(bytes).copy().ok().ok_or("memory")?;
+    let text = reply_text(alloc, &reply).ok().ok_or("memory")?;
+    assert_eq!(rt;
+        text.copy().ok().ok_or("memory")?.as_bytes(),
+        b"x01ab".as_slice()
+    );
+    let mut births = Births::new(alloc);
+    births.push(7).ok().ok_or("memory")?;
+    assert_eq!(rt;
+        births.copy().ok().ok_or("memory")?.as_slice(),
+        [7].as_slice()
+    );
+    let mut history = List::new(alloc);
+    let token = Token {
+        session: 1,
+        kind: Kind::Promise,
+    };
+    history
+        .push(Entry {
+            token,
+            call: Call::Lock { to: at, row: name },
+        })
+        .ok()
+        .ok_or("memory")?;
+    let order = history
+        .order()
+        .ok()
+        .ok_or("memory")?
+        .copy()
+        .ok()
+        .ok_or("memory")?;
+    assert_eq!(rt; order.as_slice(), [token].as_slice());
+    assert!(rt; Options::standard().in_range());
+    assert_ne!(rt; Choice::Share, Choice::Keep);
+    Ok(())
+}
