@@ -2,8 +2,7 @@ use crate::program::securefiles_plain;
 use crate::status::Status;
 use sf_outside::{MemSink, MemSource};
 use sf_types::{
-    Births, Blob, Call, Choice, Entry, Kind, List, LocName, Name, Options, Reply, Token, TryCopy,
-    reply_text,
+    Births, Blob, Call, Entry, Kind, List, LocName, Mem, Reply, Token, TryCopy, reply_text,
 };
 use std::alloc::Global;
 use std::test::*;
@@ -114,58 +113,41 @@ fn faults_are_told(rt: HostRuntime) -> Result<(), Fail> {
     Ok(())
 }
 
-// Each call of the plain types that takes memory, once with ample memory.
+// What was made, or why the test can't go on.
+fn made<T>(outcome: Mem<T>) -> Result<T, Fail> {
+    let Ok(value) = outcome else {
+        return Err("memory".into());
+    };
+    Ok(value)
+}
+
 #[test]
-fn plain_types_are_made(rt: HostRuntime) -> Result<(), Fail> {
+fn names_and_replies_are_made(rt: HostRuntime) -> Result<(), Fail> {
     let alloc = rt.alloc();
-    let name = Name::new(alloc, b"row-1")
-        .ok()
-        .ok_or("memory")?
-        .ok_or("a name")?;
-    let at = LocName::new(alloc, b"p")
-        .ok()
-        .ok_or("memory")?
-        .ok_or("a name")?;
-    assert!(rt;
-        LocName::new(alloc, b"seventeen-letters")
-            .ok()
-            .ok_or("memory")?
-            .is_none()
-    );
-    let bytes = Blob::new(alloc, &[1, 171]).ok().ok_or("memory")?;
-    let reply = Reply::Bytes(bytes).copy().ok().ok_or("memory")?;
-    let text = reply_text(alloc, &reply).ok().ok_or("memory")?;
-    assert_eq!(rt;
-        text.copy().ok().ok_or("memory")?.as_bytes(),
-        b"x01ab".as_slice()
-    );
+    let long = made(LocName::new(alloc, b"seventeen-letters"))?;
+    assert!(rt; long.is_none());
+    let reply = Reply::Bytes(made(Blob::new(alloc, &[1, 171]))?);
+    let text = made(reply_text(alloc, &made(reply.copy())?))?;
+    assert_eq!(rt; text.as_bytes(), b"x01ab".as_slice());
+    Ok(())
+}
+
+#[test]
+fn lists_are_made(rt: HostRuntime) -> Result<(), Fail> {
+    let alloc = rt.alloc();
     let mut births = Births::new(alloc);
-    births.push(7).ok().ok_or("memory")?;
-    assert_eq!(rt;
-        births.copy().ok().ok_or("memory")?.as_slice(),
-        [7].as_slice()
-    );
-    let mut history = List::new(alloc);
+    made(births.push(7))?;
+    assert_eq!(rt; made(births.copy())?.as_slice(), [7].as_slice());
     let token = Token {
         session: 1,
         kind: Kind::Promise,
     };
-    history
-        .push(Entry {
-            token,
-            call: Call::Lock { to: at, row: name },
-        })
-        .ok()
-        .ok_or("memory")?;
-    let order = history
-        .order()
-        .ok()
-        .ok_or("memory")?
-        .copy()
-        .ok()
-        .ok_or("memory")?;
-    assert_eq!(rt; order.as_slice(), [token].as_slice());
-    assert!(rt; Options::standard().in_range());
-    assert_ne!(rt; Choice::Share, Choice::Keep);
+    let mut history = List::new(alloc);
+    made(history.push(Entry {
+        token,
+        call: Call::Commit,
+    }))?;
+    let order = made(history.order())?;
+    assert_eq!(rt; made(order.copy())?.as_slice(), [token].as_slice());
     Ok(())
 }
