@@ -14,7 +14,7 @@ use Rattle.sf_types.specs.Versions.{now}
 use Rattle.sf_script.specs.Parts.{ScriptParts}
 use Rattle.securefiles_cli.specs.Transcripts.{transcript_text}
 
--- The session that plays.
+-- A call of session 1, as an entry of the history.
 abbrev pub entry_of : Call → Entry
 entry_of call = record { token = record { session = 1; kind = kind.Call }; call = call }
 
