@@ -147,7 +147,7 @@ fn lists_are_made(rt: HostRuntime) -> Result<(), Fail> {
         token,
         call: Call::Commit,
     }))?;
-    let order = made(history.order())?;
+    let order = made(made(history.copy())?.order())?;
     assert_eq!(rt; made(order.copy())?.as_slice(), [token].as_slice());
     Ok(())
 }

@@ -31,6 +31,15 @@ pub struct Entry {
     pub call: Call,
 }
 
+impl TryCopy for Entry {
+    fn copy(&self) -> Mem<Entry> {
+        Ok(Entry {
+            token: self.token,
+            call: self.call.copy()?,
+        })
+    }
+}
+
 /// The tokens of a history.
 pub type Order = List<Token>;
 

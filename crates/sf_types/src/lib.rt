@@ -3,6 +3,7 @@
 
 mod blob;
 mod call;
+mod call_copy;
 mod copy;
 mod history;
 mod list;
