@@ -14,15 +14,18 @@ use Rattle.sf_types.specs.declared.reply.Reply.TheVariants as reply
 use Rattle.sf_types.specs.Values.{empty_value, size_of}
 use Rattle.sf_types.specs.Versions.{now, current}
 use Rattle.sf_types.specs.RowCalls.{insert_refusal, inserted, lock_refusal, locked}
-use Rattle.sf_types.specs.LocatorCalls.{locator, length_refusal, length_call, read_refusal, read_bytes, read_call, writing_refusals, append_refusals, old_value, appended, written, write_append}
+use Rattle.sf_types.specs.LocatorCalls.{locator, length_refusal, length_call, read_refusal, read_bytes, read_call}
+use Rattle.sf_types.specs.WritingCalls.{writing_refusal, old_value, result_of, answered, written, write}
 use Rattle.sf_types.specs.Ends.{committed, with_commit}
 use Rattle.sf_types.specs.Refusals.{first_of, refused_or}
-use Rattle.sf_types.specs.Step.{IsLegal, step}
+use Rattle.sf_types.specs.Step.{step}
+use Rattle.sf_types.specs.Orders.{IsLegalWhere}
 use Rattle.sf_script.specs.Parts.{can_stand}
 use Rattle.securefiles_cli.specs.Live.{IsLive}
+use Rattle.securefiles_cli.specs.Plays.{done_by}
 
 -- A call of session 1 is legal.
-pub live_legal : (t : Table) (c : Call) → IsLive t → IsLegal t 1 kind.Call c
+pub live_legal : (t : Table) (c : Call) → IsLive t → IsLegalWhere false t 1 kind.Call c
 live_legal t c live = record { session = live.session; goes_on = live.goes_on; standing = rw live.free refl }
 
 some_session : (n : ℕ) → 1 ≤ n → (x : Session) → slice_get (replicate n x) 0 ≡ Some x
@@ -80,7 +83,7 @@ live_if true x y a b = a
 live_if false x y a b = b
 
 -- After a call that may stand in a script session 1 goes on.
-pub live_step : (t : Table) (c : Call) → can_stand c ≡ true → IsLive t → IsLive (step t 1 c).0
+live_step : (t : Table) (c : Call) → can_stand c ≡ true → IsLive t → IsLive (step t 1 c).0
 live_step t (call.Insert row) stands live =
     let p = session_of t 1 in
     let u : Table = record (with_session t 1 (inserted p row)) { locks = with_lock t.locks 1 row } in
@@ -92,13 +95,13 @@ live_step t (call.Lock to row) stands live =
     live_refused_or (lock_refusal t 1 p to row) t (u, reply.Done) live (live_with t u q live refl (record { goes_on = live.goes_on; free = live.free }))
 live_step t (call.WriteAppend at bytes) stands live =
     let p = session_of t 1 in
+    let c = call.WriteAppend at bytes in
     let row = (locator p at).row in
     let is_held = holds t.locks 1 row in
-    let value = old_value p (current t row) at in
-    let q = written p at (appended value bytes) in
-    let refusal = first_of (writing_refusals p is_held (current t row) at ++ append_refusals value bytes) in
-    let done = write_append p is_held (current t row) at bytes in
-    live_with t (with_session t 1 done.0) done.0 live refl (free_refused_or refusal p (q, reply.Done) (part_of t live) (record { goes_on = live.goes_on; free = live.free }))
+    let value = current t row in
+    let q = written p at (result_of p value at c) in
+    let done = write p is_held value at c in
+    live_with t (with_session t 1 done.0) done.0 live refl (free_refused_or (writing_refusal p is_held value at c) p (q, answered c (old_value p value at)) (part_of t live) (record { goes_on = live.goes_on; free = live.free }))
 live_step t (call.Length at) stands live =
     let p = session_of t 1 in
     let done = length_call p at in
@@ -114,3 +117,7 @@ live_step t call.Commit stands live =
     (live_with t (with_commit t 1 p) (committed p) live refl (record { goes_on = live.goes_on; free = live.free }))
     (live_with t (with_session t 1 q) q live refl (record { goes_on = live.goes_on; free = live.free }))
 live_step t _ stands live = absurd cc
+
+-- The same in the run, since no promise stands.
+pub live_done : (t : Table) (c : Call) → can_stand c ≡ true → IsLive t → IsLive (done_by t c).0
+live_done t c stands live = rw live.free (live_step t c stands live)

@@ -8,9 +8,9 @@ use Rattle.sf_types.specs.declared.history.Kind.TheVariants as kind
 use Rattle.sf_types.specs.declared.history.Token.{Token}
 use Rattle.sf_types.specs.declared.reply.Reply.{Reply}
 use Rattle.sf_types.specs.Table.{Table}
-use Rattle.sf_types.specs.Step.{step, table_after, replies_from, replies_to}
+use Rattle.sf_types.specs.Orders.{table_after, replies_from, replies_to}
 use Rattle.sf_script.specs.Parts.{can_stand}
-use Rattle.securefiles_cli.specs.Plays.{entry_of}
+use Rattle.securefiles_cli.specs.Plays.{entry_of, done_by}
 
 -- The replies to some calls and the End, and the table after them.
 abbrev pub told_to : Table → List Call → List Reply
@@ -37,12 +37,12 @@ stands_at (c ∷ cs) (suc i) x all lt is = stands_at cs i x (and_second (can_sta
 pub next_call : (calls : List Call) (i : ℕ) (x : Call) → i < length calls → x ≡ get_or calls i x → drop i calls ≡ x ∷ drop (i + 1) calls
 next_call calls i x lt is = drop_more calls i x lt ∙ ap (λ (y : Call). y ∷ drop (i + 1) calls) (sym is)
 
-pub told_more : (t u : Table) (x : Call) (calls rest : List Call) (out more total : List Reply) → calls ≡ x ∷ rest → u ≡ (step t 1 x).0 → more ≡ out ++ (step t 1 x).1 ∷ [] → out ++ told_to t calls ≡ total → more ++ told_to u rest ≡ total
+pub told_more : (t u : Table) (x : Call) (calls rest : List Call) (out more total : List Reply) → calls ≡ x ∷ rest → u ≡ (done_by t x).0 → more ≡ out ++ (done_by t x).1 ∷ [] → out ++ told_to t calls ≡ total → more ++ told_to u rest ≡ total
 told_more t u x calls rest out more total calls-is u-is more-is so_far =
     rw (more-is, u-is)
-    (append_assoc out ((step t 1 x).1 ∷ []) (told_to (step t 1 x).0 rest) ∙ ap (λ (cs : List Call). out ++ told_to t cs) (sym calls-is) ∙ so_far)
+    (append_assoc out ((done_by t x).1 ∷ []) (told_to (done_by t x).0 rest) ∙ ap (λ (cs : List Call). out ++ told_to t cs) (sym calls-is) ∙ so_far)
 
-pub left_more : (t u : Table) (x : Call) (calls rest : List Call) (end : Table) → calls ≡ x ∷ rest → u ≡ (step t 1 x).0 → left_by t calls ≡ end → left_by u rest ≡ end
+pub left_more : (t u : Table) (x : Call) (calls rest : List Call) (end : Table) → calls ≡ x ∷ rest → u ≡ (done_by t x).0 → left_by t calls ≡ end → left_by u rest ≡ end
 left_more t u x calls rest end calls-is u-is so_far = rw u-is (ap (left_by t) (sym calls-is) ∙ so_far)
 
 -- session 1 once for each call and once for its End

@@ -8,7 +8,8 @@ use Rattle.sf_types.specs.declared.history.Token.{Token}
 use Rattle.sf_types.specs.declared.played.Played.{Played}
 use Rattle.sf_types.specs.declared.reply.Reply.{Reply}
 use Rattle.sf_types.specs.Rows.{ends_of}
-use Rattle.sf_types.specs.Step.{table_after, replies_from, replies_to}
+use Rattle.sf_types.specs.Orders.{applied_call, table_after, replies_from, replies_to}
+use Rattle.sf_types.specs.Sessions.{session_of}
 use Rattle.sf_types.specs.Table.{Table, opening}
 use Rattle.sf_types.specs.Versions.{now}
 use Rattle.sf_script.specs.Parts.{ScriptParts}
@@ -17,6 +18,10 @@ use Rattle.securefiles_cli.specs.Transcripts.{transcript_text}
 -- A call of session 1, as an entry of the history.
 abbrev pub entry_of : Call → Entry
 entry_of call = record { token = record { session = 1; kind = kind.Call }; call = call }
+
+-- What a call of session 1 does in the run: the table after it, and the reply.
+abbrev pub done_by : Table → Call → Table × Reply
+done_by t call = applied_call (session_of t 1).promise t 1 call
 
 -- The calls of session 1, without its End.
 abbrev pub calls_of : ScriptParts → List Call

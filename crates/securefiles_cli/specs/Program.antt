@@ -12,7 +12,7 @@ use Rattle.sf_script.specs.declared.fault.ScriptFault.{ScriptFault}
 use Rattle.securefiles_cli.specs.declared.status.Status.{Status}
 use Rattle.securefiles_cli.specs.declared.status.Status.TheVariants as status
 use Rattle.securefiles_cli.specs.Plays.{transcript_of}
-use Rattle.securefiles_cli.specs.Transcripts.{line}
+use Rattle.sf_types.specs.Transcripts.{line}
 
 -- The words are the one word `play`, the only command today.
 abbrev pub is_play : List (String Global) → Bool

@@ -2,10 +2,11 @@
 ghost use Rattle.std.specs.Prelude.{◌≡◌, ◌∷◌, [], ◌++◌, ◌≤◌, map, replicate, IfOk, OnOk, IsTrue};
 ghost use Rattle.std.specs.List.{list_all};
 ghost use Rattle.sf_types.specs.declared.call.Call.TheVariants.{End};
-ghost use Rattle.sf_types.specs.Step.{has_step, step, table_after, replies_from, replies_to};
+ghost use Rattle.sf_types.specs.Step.{has_step};
+ghost use Rattle.sf_types.specs.Orders.{table_after, replies_from, replies_to};
 ghost use Rattle.sf_script.specs.Parts.{can_stand};
 ghost use Rattle.securefiles_cli.specs.Live.{IsLive};
-ghost use Rattle.securefiles_cli.specs.Plays.{entry_of, calls_of, order_of, replies_of, end_of, IsPlayed};
+ghost use Rattle.securefiles_cli.specs.Plays.{entry_of, done_by, calls_of, order_of, replies_of, end_of, IsPlayed};
 
 use sf_model::Plain;
 use sf_script::Script;
@@ -27,8 +28,8 @@ fn first_calls(script: &Script) -> &[Call]
 fn play_call(plain: &mut Plain, call: &Call, replies: &mut ReplyList) -> Mem<()>
     requires live { IsLive plain.old }
     requires built { IsTrue (has_step call.now) }
-    ensures table { OnOk result (plain.new ≡ (step plain.old 1 call.now).0) }
-    ensures reply { OnOk result (replies.new ≡ replies.old ++ (step plain.old 1 call.now).1 ∷ []) }
+    ensures table { OnOk result (plain.new ≡ (done_by plain.old call.now).0) }
+    ensures reply { OnOk result (replies.new ≡ replies.old ++ (done_by plain.old call.now).1 ∷ []) }
 {
     let token = Token {
         session: 1,

@@ -6,7 +6,7 @@ ghost use Rattle.sf_outside.specs.Sink.{GrowsBy};
 ghost use Rattle.sf_script.specs.Scripts.{script_of};
 ghost use Rattle.securefiles_cli.specs.declared.status.Status.TheVariants as status;
 ghost use Rattle.securefiles_cli.specs.Outputs.{GrowsByFront};
-ghost use Rattle.securefiles_cli.specs.Transcripts.{line};
+ghost use Rattle.sf_types.specs.Transcripts.{line};
 ghost use Rattle.securefiles_cli.specs.Program.{is_play, usage_line, refusal_line, status_of, output_of, due_status, due_output, IsOfWords, IsStop, IsDue, IsPlayedOut, IsRefusedOut};
 
 use crate::input::{ReadError, read_input};

@@ -13,11 +13,14 @@ use Rattle.sf_types.specs.Sessions.{has_session, session_of, with_session, row_v
 use Rattle.sf_types.specs.RowCalls.{inserted, insert, locked, lock}
 use Rattle.sf_types.specs.declared.reply.Fault.TheVariants as fault
 use Rattle.std.specs.Option.{option_map}
-use Rattle.sf_types.specs.LocatorCalls.{named, no_locator, locator, write_append}
+use Rattle.sf_types.specs.LocatorCalls.{named, no_locator, locator}
+use Rattle.sf_types.specs.WritingCalls.{write}
 use Rattle.sf_types.specs.Ends.{committed, floor_after, with_commit, commit, ended, end}
 use Rattle.sf_types.specs.declared.call.Call.{Call}
+use Rattle.sf_types.specs.declared.call.Call.TheVariants.{WriteAppend}
 use Rattle.sf_types.specs.declared.history.Kind.TheVariants as kind
-use Rattle.sf_types.specs.Step.{put_into, append_step, IsLegal}
+use Rattle.sf_types.specs.Step.{put_into, write_step}
+use Rattle.sf_types.specs.Orders.{IsLegalWhere}
 use Rattle.sf_types.specs.Versions.{now, current}
 
 within : (s n : ℕ) → IsTrue (nat_le 1 s && nat_le s n) → s - 1 < n
@@ -52,7 +55,7 @@ end_done t s locks p locks-is p-is = rw (locks-is, p-is) refl
 pub put_own : (t : Table) (s : ℕ) (r : Reply) (done : Session × Reply) → IsTrue (has_session t s) → ◌≡◌ {A = Session × Reply} (session_of t s, r) done → ◌≡◌ {A = Table × Reply} (t, r) (put_into t s done)
 put_own t s r done has is = ap (λ (u : Table). (u, r)) (sym (same_part t s has)) ∙ ap (put_into t s) is
 
-pub append_unknown : (p : Session) (is_held : Bool) (value : Option Value) (at buffer : List ℕ) → named p at ≡ None → ◌≡◌ {A = Session × Reply} (p, reply.Refused fault.UnknownLocator) (write_append p is_held value at buffer)
+pub append_unknown : (p : Session) (is_held : Bool) (value : Option Value) (at buffer : List ℕ) → named p at ≡ None → ◌≡◌ {A = Session × Reply} (p, reply.Refused fault.UnknownLocator) (write p is_held value at (WriteAppend at buffer))
 append_unknown p is_held value at buffer none = rw none refl
 
 pub none_named : (o : Option Locator) → option_map (λ l. l.row) o ≡ None → o ≡ None
@@ -63,15 +66,23 @@ pub row_of_named : (o : Option Locator) (row : List ℕ) → option_map (λ l. l
 row_of_named None row is = absurd cc
 row_of_named (Some l) row is = cc
 
-pub append_done : (t : Table) (s : ℕ) (at buffer row : List ℕ) (is_held : Bool) (value : Option Value) (p : Session) (r : Reply) → ◌≡◌ {A = Session × Reply} (p, r) (write_append (session_of t s) is_held value at buffer)
+pub append_done : (t : Table) (s : ℕ) (at buffer row : List ℕ) (is_held : Bool) (value : Option Value) (p : Session) (r : Reply) → ◌≡◌ {A = Session × Reply} (p, r) (write (session_of t s) is_held value at (WriteAppend at buffer))
     → is_held ≡ holds t.locks s row → value ≡ current t row → (locator (session_of t s) at).row ≡ row
-    → ◌≡◌ {A = Table × Reply} (with_session t s p, r) (append_step t s (session_of t s) at buffer)
+    → ◌≡◌ {A = Table × Reply} (with_session t s p, r) (write_step t s (session_of t s) at (WriteAppend at buffer))
 append_done t s at buffer row is_held value p r done held-is value-is row-is =
     let q = session_of t s in
-    let there : ◌≡◌ {A = Session × Reply} (write_append q is_held value at buffer) (write_append q (holds t.locks s (locator q at).row) (current t (locator q at).row) at buffer) =
-    ap (λ b. write_append q b value at buffer) (held-is ∙ ap (holds t.locks s) (sym row-is))
-    ∙ ap (λ (v : Option Value). write_append q (holds t.locks s (locator q at).row) v at buffer) (value-is ∙ ap (current t) (sym row-is)) in
+    let c = WriteAppend at buffer in
+    let there : ◌≡◌ {A = Session × Reply} (write q is_held value at c) (write q (holds t.locks s (locator q at).row) (current t (locator q at).row) at c) =
+    ap (λ b. write q b value at c) (held-is ∙ ap (holds t.locks s) (sym row-is))
+    ∙ ap (λ (v : Option Value). write q (holds t.locks s (locator q at).row) v at c) (value-is ∙ ap (current t) (sym row-is)) in
     ap (put_into t s) (done ∙ there)
+
+pub append_done_in : (u t : Table) (s : ℕ) (at buffer row : List ℕ) (is_held : Bool) (value : Option Value) (p : Session) (r : Reply) → t ≡ u → ◌≡◌ {A = Session × Reply} (p, r) (write (session_of t s) is_held value at (WriteAppend at buffer))
+    → is_held ≡ holds t.locks s row → value ≡ current t row → (locator (session_of t s) at).row ≡ row
+    → ◌≡◌ {A = Table × Reply} (with_session t s p, r) (write_step u s (session_of u s) at (WriteAppend at buffer))
+append_done_in u t s at buffer row is_held value p r same done held-is value-is row-is =
+    append_done t s at buffer row is_held value p r done held-is value-is row-is
+    ∙ ap (λ (x : Table). write_step x s (session_of x s) at (WriteAppend at buffer)) same
 
 -- a commit where no transaction is open and no savepoint is set
 pub commit_none : (t : Table) (s n : ℕ) → IsTrue (has_session t s) → (session_of t s).is_open ≡ false → (session_of t s).savepoints ≡ [] → n ≡ now t
@@ -90,13 +101,13 @@ pub commit_done : (t : Table) (s n floor : ℕ) (commits : List Rows) (locks : N
 commit_done t s n floor commits locks p opened commits-is n-is floor-is locks-is p-is = rw (p-is, commits-is, n-is, floor-is, locks-is, opened) refl
 
 -- where no promise stands and no call is due, a call of a session that hasn't ended is legal, and nothing else is
-pub call_legal : (t : Table) (s : ℕ) (c : Call) → IsTrue (has_session t s) → (session_of t s).has_ended ≡ false → (session_of t s).promise ≡ None → IsLegal t s kind.Call c
+pub call_legal : (t : Table) (s : ℕ) (c : Call) → IsTrue (has_session t s) → (session_of t s).has_ended ≡ false → (session_of t s).promise ≡ None → IsLegalWhere false t s kind.Call c
 call_legal t s c has goes_on none = record { session = has; goes_on = goes_on; standing = rw none refl }
 
-pub promise_not_legal : (t : Table) (s : ℕ) (c : Call) → (session_of t s).promise ≡ None → IsLegal t s kind.Promise c → ⊥
+pub promise_not_legal : (t : Table) (s : ℕ) (c : Call) → (session_of t s).promise ≡ None → IsLegalWhere false t s kind.Promise c → ⊥
 promise_not_legal t s c none legal = let due = rw none at legal.standing in cc
 
-pub cancel_not_legal : (t : Table) (s : ℕ) (c : Call) → (session_of t s).promise ≡ None → IsLegal t s kind.Cancel c → ⊥
+pub cancel_not_legal : (t : Table) (s : ℕ) (c : Call) → (session_of t s).promise ≡ None → IsLegalWhere false t s kind.Cancel c → ⊥
 cancel_not_legal t s c none legal = rw none at legal.standing
 
 pub has_from : (s n : ℕ) → (s ≡ 0 → ⊥) → s ≤ n → IsTrue (nat_le 1 s && nat_le s n)

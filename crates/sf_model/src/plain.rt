@@ -10,7 +10,10 @@ ghost use Rattle.sf_types.specs.NameMaps.{without};
 ghost use Rattle.sf_types.specs.RowCalls.{inserted, locked, insert, lock};
 ghost use Rattle.sf_types.specs.LocatorCalls.{named, length_call, read_call};
 ghost use Rattle.sf_types.specs.Ends.{floor_after, commit, end};
-ghost use Rattle.sf_types.specs.Step.{put_into, append_step, IsLegal, has_step, step, applied};
+ghost use Rattle.sf_types.specs.declared.call.Call.TheVariants as calls;
+ghost use Rattle.sf_types.specs.Step.{put_into, write_step, has_step, step};
+ghost use Rattle.sf_types.specs.Due.{never_due};
+ghost use Rattle.sf_types.specs.Orders.{IsLegalWhere, applied};
 
 use crate::rows::{Rows, changes_of, make_places, rows_present, said_value, say_all};
 use crate::session::Session;
@@ -309,7 +312,7 @@ impl Plain {
 
     fn write_append(&mut self, session: u16, at: &LocName, buffer: &[u8]) -> Mem<Reply>
         requires { IsTrue (has_session self.old session) }
-        ensures ok { IfOk result (λ reply. (self.new, reply) ≡ append_step self.old session (session_of self.old session) at.now buffer.now) }
+        ensures ok { IfOk result (λ reply. (self.new, reply) ≡ write_step self.old session (session_of self.old session) at.now (calls.WriteAppend at.now buffer.now)) }
         ensures err { OnErr result (self.new ≡ self.old) }
     {
         let Some(row) = self.row_of(session, at)? else {
@@ -358,7 +361,7 @@ impl Plain {
 
     /// Whether an entry with this token and call is legal now.
     pub fn legal(&self, token: Token, _call: &Call) -> bool
-        ensures { IsTrue result ↔ IsLegal self.now token.session token.kind _call.now }
+        ensures { IsTrue result ↔ IsLegalWhere (never_due self.now token.session _call.now) self.now token.session token.kind _call.now }
     {
         let session = token.session;
         if session == 0 || session as usize > self.sessions.len() {
@@ -377,17 +380,21 @@ impl Plain {
     /// One legal entry: the reply, and the table after it. The answer is none exactly for a promise and a cancel, and
     /// neither is legal today. After want of memory the table is as before.
     pub fn step(&mut self, token: Token, call: &Call) -> Mem<Option<Reply>>
-        requires legal { IsLegal self.old token.session token.kind call.now }
+        requires legal { IsLegalWhere (never_due self.old token.session call.now) self.old token.session token.kind call.now }
         requires built { IsTrue (has_step call.now) }
         ensures ok { IfOk result (λ answer. (self.new, answer) ≡ applied self.old token.session token.kind call.now) }
         ensures err { OnErr result (self.new ≡ self.old) }
     {
+        // No promise stands today, and no call is due.
+        if self.part(token.session).has_promise() {
+            unreachable!();
+        }
         match token.kind {
             Kind::Call => {
                 let reply = self.call(token.session, call)?;
                 Ok(Some(reply))
             }
-            Kind::Promise | Kind::Cancel => Ok(None),
+            Kind::Promise | Kind::Cancel => unreachable!(),
         }
     }
 

@@ -1,12 +1,14 @@
 //! The part of one session.
-ghost use Rattle.std.specs.Prelude.{◌≡◌, [], None, Some, false, IsSome, IfOk, OnOk, OnErr, MatchResult};
+ghost use Rattle.std.specs.Prelude.{◌≡◌, [], ◌∷◌, None, Some, false, IsSome, IfOk, OnOk, OnErr, MatchResult};
 ghost use Rattle.std.specs.Option.{option_copied};
 ghost use Rattle.sf_types.specs.Table.{new_session};
 ghost use Rattle.sf_types.specs.Sessions.{in_transaction, transaction, row_value, lacks_room};
 ghost use Rattle.sf_types.specs.RowCalls.{inserted, locked};
 ghost use Rattle.sf_types.specs.NameMaps.{put};
 ghost use Rattle.sf_types.specs.Refusals.{first_of};
-ghost use Rattle.sf_types.specs.LocatorCalls.{named, spans_transactions, length_call, read_call, writing_refusals, write_append};
+ghost use Rattle.sf_types.specs.declared.call.Call.TheVariants as calls;
+ghost use Rattle.sf_types.specs.LocatorCalls.{named, length_call, read_call};
+ghost use Rattle.sf_types.specs.WritingCalls.{spans_transactions, writing_refusals, write};
 ghost use Rattle.sf_model.specs.Writable.{IsWritable};
 ghost use Rattle.sf_types.specs.Ends.{committed, ended};
 
@@ -172,7 +174,7 @@ impl Session {
     ) -> Result<(&'a Locator, &'a Value), Fault>
         ensures { MatchResult result
             (λ both. IsWritable self.now is_held (option_copied current.entry) at.now both.0.now both.1.now)
-            (λ fault. first_of (writing_refusals self.now is_held (option_copied current.entry) at.now) ≡ Some fault) }
+            (λ fault. first_of (writing_refusals self.now is_held (option_copied current.entry) at.now (at.now ∷ [])) ≡ Some fault) }
     {
         let Some(locator) = self.locator(at) else {
             return Err(Fault::UnknownLocator);
@@ -220,7 +222,7 @@ impl Session {
         at: &LocName,
         buffer: &[u8],
     ) -> Mem<Reply>
-        ensures ok { IfOk result (λ reply. (self.new, reply) ≡ write_append self.old is_held (option_copied current.entry) at.now buffer.now) }
+        ensures ok { IfOk result (λ reply. (self.new, reply) ≡ write self.old is_held (option_copied current.entry) at.now (calls.WriteAppend at.now buffer.now)) }
         ensures err { OnErr result (self.new ≡ self.old) }
     {
         let (locator, value) = match self.writable(is_held, current, at) {

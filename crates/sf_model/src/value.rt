@@ -2,8 +2,8 @@
 ghost use Rattle.std.specs.Prelude.{◌≡◌, ◌+◌, ◌-◌, ◌≤◌, ◌++◌, length, take, drop, IfOk, OnOk};
 ghost use Rattle.std.specs.List.{flat_map};
 ghost use Rattle.sha2.specs.Sha256.{sha256};
-ghost use Rattle.sf_types.specs.Values.{empty_value, strip, size_of};
-ghost use Rattle.sf_types.specs.LocatorCalls.{appended, read_bytes};
+ghost use Rattle.sf_types.specs.Values.{empty_value, fresh, strip, size_of};
+ghost use Rattle.sf_types.specs.LocatorCalls.{read_bytes};
 
 use sf_types::{Blob, Choice, Exact, List, Mem, Sum, TryCopy};
 use sha2::{Digest, Sha256};
@@ -128,7 +128,7 @@ impl Value {
     /// A value with a buffer at its end, whose bytes are fresh.
     pub fn appended(&self, buffer: &[u8]) -> Mem<Value>
         requires { size_of self.now + length buffer.now ≤ 67108864 }
-        ensures { IfOk result (λ value. value ≡ appended self.now buffer.now) }
+        ensures { IfOk result (λ value. value ≡ record self.now { bytes = self.now.bytes ++ fresh buffer.now }) }
     {
         Ok(Value {
             pieces: longer(&self.pieces, buffer)?,

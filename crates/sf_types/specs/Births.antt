@@ -1,5 +1,5 @@
 -- Births are numbers from 1, and a list of them rises.
-use Rattle.std.specs.Prelude.{ℕ, ◌<◌, List, [], ◌∷◌}
+use Rattle.std.specs.Prelude.{ℕ, ◌<◌, ◌==◌, nat_lt, List, [], ◌∷◌, if◌then◌else◌}
 
 abbrev pub IsBelowAll : ℕ → List ℕ → Type 0
 IsBelowAll birth [] = Unit {0}
@@ -13,3 +13,14 @@ IsRising (b ∷ bs) = IsBelowAll b bs × IsRising bs
 abbrev pub IsAboveAll : ℕ → List ℕ → Type 0
 IsAboveAll birth [] = Unit {0}
 IsAboveAll birth (b ∷ bs) = (b < birth) × IsAboveAll birth bs
+
+-- A rising list with one birth more, which stands in it once.
+abbrev pub with_birth : ℕ → List ℕ → List ℕ
+with_birth birth [] = birth ∷ []
+with_birth birth (b ∷ bs) =
+    if nat_lt birth b then birth ∷ b ∷ bs else if birth == b then b ∷ bs else b ∷ with_birth birth bs
+
+-- The births of any list, rising, each once.
+abbrev pub rising : List ℕ → List ℕ
+rising [] = []
+rising (b ∷ bs) = with_birth b (rising bs)

@@ -1,11 +1,12 @@
--- Transaction ends: Commit and End.
+-- Transaction ends: Commit, Rollback and End.
 use Rattle.std.specs.Prelude.{ℕ, ◌+◌, ◌-◌, true, false, [], ◌∷◌, ◌++◌, map, max, if◌then◌else◌}
 use Rattle.sf_types.specs.declared.options.Options.{Options}
 use Rattle.sf_types.specs.declared.reply.Reply.{Reply}
-use Rattle.sf_types.specs.declared.reply.Reply.TheVariants.{Committed, Ended}
+use Rattle.sf_types.specs.declared.reply.Reply.TheVariants.{Committed, Done, Ended}
 use Rattle.sf_types.specs.NameMaps.{NameMap}
 use Rattle.sf_types.specs.Table.{Locator, Session, Table}
 use Rattle.sf_types.specs.Sessions.{with_session, released}
+use Rattle.sf_types.specs.Savepoints.{lost_where}
 use Rattle.sf_types.specs.Versions.{now}
 
 -- At a commit the session's dirty locators become clean. A locator keeps its value.
@@ -35,6 +36,14 @@ commit t s p =
     if p.is_open
     then (with_commit t s p, Committed (now t + 1))
     else (with_session t s (record p { savepoints = [] }), Committed (now t))
+
+-- Rollback drops the working values, closes the transaction, and each dirty locator becomes lost. All savepoints are
+-- erased, whether a transaction is open or not.
+abbrev pub rolled_back : Session → Session
+rolled_back p = record p { is_open = false; working = []; locators = lost_where (λ l. l.is_dirty) p.locators; savepoints = [] }
+
+abbrev pub rollback : Table → ℕ → Session → Table × Reply
+rollback t s p = (record (with_session t s (rolled_back p)) { locks = released t.locks s }, Done)
 
 -- End drops the working values, closes the transaction, frees all locators and erases all savepoints.
 abbrev pub ended : Session → Session

@@ -28,3 +28,15 @@ buffer_bytes = 32767
 -- A session has at most 256 locators.
 abbrev pub locators_per_session : ℕ
 locators_per_session = 256
+
+-- A session has at most 64 savepoints.
+abbrev pub savepoints_per_session : ℕ
+savepoints_per_session = 64
+
+-- A content has 1 to 32,768 bytes.
+abbrev pub content_bytes : ℕ
+content_bytes = 32768
+
+-- A block has 512 bytes.
+abbrev pub block_bytes : ℕ
+block_bytes = 512

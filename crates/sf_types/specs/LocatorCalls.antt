@@ -1,15 +1,18 @@
--- Locator calls: Length, Read and WriteAppend. What such a call does is a function of the session's own part, of
--- whether it holds the lock of the locator's row, and of what that row holds.
-use Rattle.std.specs.Prelude.{ℕ, ◌+◌, ◌-◌, ◌==◌, Bool, true, false, not, ◌&&◌, ◌||◌, nat_lt, List, [], ◌∷◌, ◌++◌, length, take, drop, Option, Some, is_none, unwrap_or}
+-- Locator calls that write nothing: Assign, Free, Length, Read, Instr and Compare. What such a call does is a function
+-- of the session's own part.
+use Rattle.std.specs.Prelude.{ℕ, ◌+◌, ◌-◌, Bool, false, nat_eq, List, [], ◌∷◌, ◌++◌, map, length, take, drop, find, bytes_eq, Option, is_none, unwrap_or}
+use Rattle.std.specs.List.{range_with_len, starts_with}
+use Rattle.sf_types.specs.declared.call.Call.TheVariants as call
 use Rattle.sf_types.specs.declared.reply.Fault.{Fault}
 use Rattle.sf_types.specs.declared.reply.Fault.TheVariants as fault
 use Rattle.sf_types.specs.declared.reply.Reply.{Reply}
 use Rattle.sf_types.specs.declared.reply.Reply.TheVariants as reply
-use Rattle.sf_types.specs.Limits.{buffer_bytes, object_bytes}
-use Rattle.sf_types.specs.NameMaps.{get, put}
-use Rattle.sf_types.specs.Values.{Value, empty_value, fresh, strip, size_of}
+use Rattle.sf_types.specs.NameMaps.{get, put, without}
+use Rattle.sf_types.specs.Values.{Value, empty_value, strip, size_of}
+use Rattle.sf_types.specs.Edits.{part}
+use Rattle.sf_types.specs.Arguments.{argument_refusals}
 use Rattle.sf_types.specs.Table.{Locator, Session}
-use Rattle.sf_types.specs.Sessions.{transaction, row_value}
+use Rattle.sf_types.specs.Sessions.{lacks_room}
 use Rattle.sf_types.specs.Refusals.{first_of, refused_or}
 
 -- The locator of a name, where there is one.
@@ -31,85 +34,83 @@ no_locator = record {
 abbrev pub locator : Session → List ℕ → Locator
 locator p at = unwrap_or (named p at) no_locator
 
--- Length answers the number of bytes of the locator's own value. It is refused UnknownLocator, then Lost.
+-- A locator that a call names isn't there.
+abbrev pub unknown_refusals : Session → List (List ℕ) → List (Bool × Fault)
+unknown_refusals p names = map (λ at. (is_none (named p at), fault.UnknownLocator)) names
+
+-- A locator that a call names is lost.
+abbrev pub lost_refusals : Session → List (List ℕ) → List (Bool × Fault)
+lost_refusals p names = map (λ at. ((locator p at).is_lost, fault.Lost)) names
+
+-- The refusals of every call through locators but Free: a locator isn't there, then one is lost.
+abbrev pub locator_refusals : Session → List (List ℕ) → List (Bool × Fault)
+locator_refusals p names = unknown_refusals p names ++ lost_refusals p names
+
+-- Assign: its source isn't there or is lost, then TooManyLocators.
+abbrev pub assign_refusal : Session → List ℕ → List ℕ → Option Fault
+assign_refusal p to from =
+    first_of (locator_refusals p (from ∷ []) ++ (lacks_room p to, fault.TooManyLocators) ∷ [])
+
+-- It sets a locator to a copy of another, with all its marks and its epoch.
+abbrev pub assign : Session → List ℕ → List ℕ → Session × Reply
+assign p to from =
+    refused_or (assign_refusal p to from) p (record p { locators = put p.locators to (locator p from) }, reply.Done)
+
+-- Free takes a locator away, a lost one too.
+abbrev pub free_refusal : Session → List ℕ → Option Fault
+free_refusal p at = first_of (unknown_refusals p (at ∷ []))
+
+abbrev pub free : Session → List ℕ → Session × Reply
+free p at = refused_or (free_refusal p at) p (record p { locators = without p.locators at }, reply.Done)
+
+-- Length answers the number of bytes of the locator's own value.
 abbrev pub length_refusal : Session → List ℕ → Option Fault
-length_refusal p at = first_of (
-    (is_none (named p at), fault.UnknownLocator)
-    ∷ ((locator p at).is_lost, fault.Lost)
-    ∷ [])
+length_refusal p at = first_of (locator_refusals p (at ∷ []))
 
 abbrev pub length_call : Session → List ℕ → Session × Reply
-length_call p at =
-    refused_or (length_refusal p at) p (p, reply.Number (size_of (locator p at).value))
+length_call p at = refused_or (length_refusal p at) p (p, reply.Number (size_of (locator p at).value))
 
--- Read: the amount is 0 or more than a buffer holds, or the offset is 0; then the offset is past the end.
-abbrev pub is_read_out_of_range : ℕ → ℕ → Bool
-is_read_out_of_range amount offset = amount == 0 || nat_lt buffer_bytes amount || offset == 0
-
+-- Read answers the bytes from an offset, counted from 1, amount of them or up to the end.
 abbrev pub read_refusal : Session → List ℕ → ℕ → ℕ → Option Fault
-read_refusal p at amount offset = first_of (
-    (is_none (named p at), fault.UnknownLocator)
-    ∷ ((locator p at).is_lost, fault.Lost)
-    ∷ (is_read_out_of_range amount offset, fault.ArgOutOfRange)
-    ∷ (nat_lt (size_of (locator p at).value) offset, fault.NoData)
-    ∷ [])
+read_refusal p at amount offset =
+    first_of (locator_refusals p (at ∷ []) ++ argument_refusals (call.Read at amount offset) (size_of (locator p at).value) 0)
 
--- It answers the bytes from the offset, counted from 1, amount of them or up to the end.
 abbrev pub read_bytes : Value → ℕ → ℕ → List ℕ
-read_bytes value amount offset = take amount (drop (offset - 1) (strip value))
+read_bytes value amount offset = part (strip value) amount offset
 
 abbrev pub read_call : Session → List ℕ → ℕ → ℕ → Session × Reply
 read_call p at amount offset =
     refused_or (read_refusal p at amount offset) p (p, reply.Bytes (read_bytes (locator p at).value amount offset))
 
--- A locator whose transaction's number isn't 0 is written through in that transaction alone.
-abbrev pub spans_transactions : Session → Locator → Bool
-spans_transactions p l = not (l.transaction == 0) && not (l.transaction == transaction p)
+-- Whether a pattern stands whole at a place.
+abbrev pub stands_at : List ℕ → List ℕ → ℕ → Bool
+stands_at bytes pattern place = starts_with nat_eq (drop (place - 1) bytes) pattern
 
--- The refusals of every writing call, before those of its arguments.
-abbrev pub writing_refusals : Session → Bool → Option Value → List ℕ → List (Bool × Fault)
-writing_refusals p is_held current at =
-    (is_none (named p at), fault.UnknownLocator)
-    ∷ ((locator p at).is_lost, fault.Lost)
-    ∷ ((locator p at).is_read_only, fault.ReadOnly)
-    ∷ (spans_transactions p (locator p at), fault.SpansTransactions)
-    ∷ (not is_held, fault.RowNotLocked)
-    ∷ (is_none (row_value p current (locator p at).row), fault.NoSuchRow)
-    ∷ []
+-- The least place at or after an offset where a pattern stands whole, or 0.
+abbrev pub place_of : List ℕ → List ℕ → ℕ → ℕ
+place_of bytes pattern offset =
+    unwrap_or (find (stands_at bytes pattern) (range_with_len offset (length bytes + 1 - offset))) 0
 
--- A writing call works on the row's value in the transaction and makes the result the working value. The written
--- locator then has the result, the open transaction's number and the session's epoch, and is dirty.
-abbrev pub written_locator : Session → Locator → Value → Locator
-written_locator p l value =
-    record l { value = value; transaction = transaction p; epoch = p.epoch; is_dirty = true }
+-- Instr answers that place in the locator's own value.
+abbrev pub instr_refusal : Session → List ℕ → List ℕ → ℕ → Option Fault
+instr_refusal p at pattern offset =
+    first_of (locator_refusals p (at ∷ []) ++ argument_refusals (call.Instr at pattern offset) (size_of (locator p at).value) 0)
 
-abbrev pub written : Session → List ℕ → Value → Session
-written p at value = record p {
-  working = put p.working (locator p at).row (Some value);
-  locators = put p.locators at (written_locator p (locator p at) value);
-}
+abbrev pub instr_call : Session → List ℕ → List ℕ → ℕ → Session × Reply
+instr_call p at pattern offset =
+    refused_or (instr_refusal p at pattern offset) p
+    (p, reply.Number (place_of (strip (locator p at).value) pattern offset))
 
--- The value that a writing call works on.
-abbrev pub old_value : Session → Option Value → List ℕ → Value
-old_value p current at = unwrap_or (row_value p current (locator p at).row) empty_value
+-- Compare answers whether two parts are equal. A part is the bytes from its offset, amount of them or up to the end,
+-- and nothing where the offset is past the end.
+abbrev pub compare_refusal : Session → List ℕ → List ℕ → ℕ → ℕ → ℕ → Option Fault
+compare_refusal p left right amount left_offset right_offset =
+    first_of (locator_refusals p (left ∷ right ∷ [])
+    ++ argument_refusals (call.Compare left right amount left_offset right_offset) (size_of (locator p left).value) 0)
 
--- A buffer is out of range where it is empty or longer than a buffer may be.
-abbrev pub is_buffer_out_of_range : List ℕ → Bool
-is_buffer_out_of_range buffer = length buffer == 0 || nat_lt buffer_bytes (length buffer)
-
--- WriteAppend: the buffer is out of range; then the object would be too long.
-abbrev pub append_refusals : Value → List ℕ → List (Bool × Fault)
-append_refusals value buffer =
-    (is_buffer_out_of_range buffer, fault.ArgOutOfRange)
-    ∷ (nat_lt object_bytes (size_of value + length buffer), fault.TooLong)
-    ∷ []
-
--- The buffer at the end, its bytes fresh.
-abbrev pub appended : Value → List ℕ → Value
-appended value buffer = record value { bytes = value.bytes ++ fresh buffer }
-
-abbrev pub write_append : Session → Bool → Option Value → List ℕ → List ℕ → Session × Reply
-write_append p is_held current at buffer =
-    let value = old_value p current at in
-    refused_or (first_of (writing_refusals p is_held current at ++ append_refusals value buffer)) p
-    (written p at (appended value buffer), reply.Done)
+abbrev pub compare_call : Session → List ℕ → List ℕ → ℕ → ℕ → ℕ → Session × Reply
+compare_call p left right amount left_offset right_offset =
+    refused_or (compare_refusal p left right amount left_offset right_offset) p
+    (p, reply.Equal (bytes_eq
+        (part (strip (locator p left).value) amount left_offset)
+        (part (strip (locator p right).value) amount right_offset)))

@@ -1,5 +1,5 @@
 -- The sessions of a table, their transactions and their locks.
-use Rattle.std.specs.Prelude.{ℕ, ◌+◌, ◌-◌, ◌==◌, Bool, true, false, not, ◌&&◌, nat_le, List, length, filter, slice_get, slice_set, Option, unwrap_or, if◌then◌else◌}
+use Rattle.std.specs.Prelude.{ℕ, ◌+◌, ◌-◌, ◌==◌, Bool, true, false, not, ◌&&◌, nat_le, List, length, map, filter, slice_get, slice_set, Option, unwrap_or, if◌then◌else◌}
 use Rattle.std.specs.Option.{option_map_or}
 use Rattle.sf_types.specs.Limits.{locators_per_session}
 use Rattle.sf_types.specs.NameMaps.{NameMap, get, has, put}
@@ -44,6 +44,10 @@ with_lock locks s row = if holds locks s row then locks else put locks row s
 -- The locks without those of a session.
 abbrev pub released : NameMap ℕ → ℕ → NameMap ℕ
 released locks s = filter (λ e. not (e.1 == s)) locks
+
+-- The rows that a session has locked, in byte order of names.
+abbrev pub locked_rows : NameMap ℕ → ℕ → List (List ℕ)
+locked_rows locks s = map (λ e. e.0) (filter (λ e. e.1 == s) locks)
 
 -- Whether a locator can't be set: the name is new, and the session has as many locators as it may have.
 abbrev pub lacks_room : Session → List ℕ → Bool

@@ -1,5 +1,5 @@
 use Rattle.std.proofs.Common.{◌+◌, drop}
-use Rattle.securefiles_cli.proofs.LiveSteps.{live_step}
+use Rattle.securefiles_cli.proofs.LiveSteps.{live_done}
 use Rattle.securefiles_cli.proofs.Played.{stands_at, next_call, told_more, left_more}
 use Rattle.securefiles_cli.proofs.play.play_session.Goals as goal
 
@@ -13,7 +13,7 @@ loop-call-preserved c =
     let next = next_call calls i x c.loop-call-test.true c.call-item.is in
     let stands = stands_at calls i x c.requires.stand c.loop-call-test.true c.call-item.is in
     record {
-      live = rw c.in_ok-play_call.ensures.table (live_step t x stands c.loop-call.invariant.live);
+      live = rw c.in_ok-play_call.ensures.table (live_done t x stands c.loop-call.invariant.live);
       told = told_more t u x (drop i calls) (drop (i + 1) calls) c.loop-call.replies c.play_call.new.replies _ next c.in_ok-play_call.ensures.table c.in_ok-play_call.ensures.reply c.loop-call.invariant.told;
       ends = left_more t u x (drop i calls) (drop (i + 1) calls) _ next c.in_ok-play_call.ensures.table c.loop-call.invariant.ends;
     }

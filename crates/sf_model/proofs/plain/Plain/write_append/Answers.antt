@@ -3,10 +3,12 @@ use Rattle.std.specs.Option.{option_copied}
 use Rattle.sf_types.specs.declared.reply.Fault.TheVariants as fault
 use Rattle.sf_types.specs.declared.reply.Reply.TheVariants as reply
 use Rattle.sf_types.specs.Sessions.{session_of, holds}
-use Rattle.sf_types.specs.LocatorCalls.{named, locator, write_append}
+use Rattle.sf_types.specs.declared.call.Call.TheVariants.{WriteAppend}
+use Rattle.sf_types.specs.LocatorCalls.{named, locator}
+use Rattle.sf_types.specs.WritingCalls.{write}
 use Rattle.sf_types.specs.Versions.{current}
 use Rattle.sf_model.specs.contracts.plain.Plain.{the_view}
-use Rattle.sf_model.proofs.Tables.{session_at, none_named, row_of_named, put_own, append_unknown, append_done}
+use Rattle.sf_model.proofs.Tables.{session_at, none_named, row_of_named, put_own, append_unknown, append_done_in}
 use Rattle.sf_model.proofs.plain.Plain.write_append.Goals as goal
 
 pub returns-in_default-clause-ok : goal.returns-in_default-clause-ok
@@ -17,7 +19,7 @@ returns-in_default-clause-ok c =
     let at = c.args.at.now in
     let row = (locator p at).row in
     let none = none_named (named p at) (sym c.in_ok-row.ensures ∙ c.in_default.is) in
-    put_own t s (reply.Refused fault.UnknownLocator) (write_append p (holds t.locks s row) (current t row) at c.args.buffer.now) c.requires
+    put_own t s (reply.Refused fault.UnknownLocator) (write p (holds t.locks s row) (current t row) at (WriteAppend at c.args.buffer.now)) c.requires
     (append_unknown p (holds t.locks s row) (current t row) at c.args.buffer.now none)
 
 pub returns-clause-ok : goal.returns-clause-ok
@@ -29,6 +31,5 @@ returns-clause-ok c =
     let has = rw (← c.self.view_is) at c.requires in
     let part = session_at t s c.index_mut-part.result.now has c.index_mut-part.ensures.value in
     let found = rw (← c.self.view_is) at (sym c.in_ok-row.ensures ∙ c.in-Some.is) in
-    let done = c.in_ok-reply.ensures.ok ∙ ap (λ p. write_append p c.holds-is_held.result value c.args.at.now c.args.buffer.now) part in
-    rw (← c.self.view_is)
-    (append_done t s c.args.at.now c.args.buffer.now row c.holds-is_held.result value _ c.in_ok-reply.reply done c.holds-is_held.ensures (c.said_value-current.ensures ∙ c.self.invariant.same row) (row_of_named (named (session_of t s) c.args.at.now) row found))
+    let done = c.in_ok-reply.ensures.ok ∙ ap (λ p. write p c.holds-is_held.result value c.args.at.now (WriteAppend c.args.at.now c.args.buffer.now)) part in
+    append_done_in c.args.self.now t s c.args.at.now c.args.buffer.now row c.holds-is_held.result value c.write_append.new.self c.in_ok-reply.reply c.self.view_is done c.holds-is_held.ensures (c.said_value-current.ensures ∙ c.self.invariant.same row) (row_of_named (named (session_of t s) c.args.at.now) row found)

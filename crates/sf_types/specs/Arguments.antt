@@ -1,0 +1,71 @@
+-- Argument rules: how the arguments of a call are refused. `size` is the length of the value that the call works on,
+-- and `source` that of the source of Append and Copy.
+use Rattle.std.specs.Prelude.{ℕ, ◌+◌, ◌-◌, ◌==◌, Bool, ◌&&◌, ◌||◌, nat_lt, min, List, [], ◌∷◌, length}
+use Rattle.sf_types.specs.declared.call.Call.{Call}
+use Rattle.sf_types.specs.declared.call.Call.TheVariants as call
+use Rattle.sf_types.specs.declared.reply.Fault.{Fault}
+use Rattle.sf_types.specs.declared.reply.Fault.TheVariants as fault
+use Rattle.sf_types.specs.Limits.{buffer_bytes, object_bytes}
+
+-- An amount that is read is out of range where it is 0 or more than a buffer holds.
+abbrev pub is_read_out_of_range : ℕ → ℕ → Bool
+is_read_out_of_range amount offset = amount == 0 || nat_lt buffer_bytes amount || offset == 0
+
+-- A buffer or a pattern is out of range where it is empty or longer than a buffer may be.
+abbrev pub is_buffer_out_of_range : List ℕ → Bool
+is_buffer_out_of_range buffer = length buffer == 0 || nat_lt buffer_bytes (length buffer)
+
+-- A part is out of range where it is empty, begins at 0 or ends past the end.
+abbrev pub is_part_out_of_range : ℕ → ℕ → ℕ → Bool
+is_part_out_of_range amount offset size =
+    amount == 0 || offset == 0 || nat_lt size (offset - 1 + amount)
+
+-- A place before an item or at the end is out of range where it is 0 or past that.
+abbrev pub is_place_out_of_range : ℕ → ℕ → Bool
+is_place_out_of_range offset size = offset == 0 || nat_lt (size + 1) offset
+
+-- How many bytes Copy takes from its source: the amount, or what the source has from its offset.
+abbrev pub copied_count : ℕ → ℕ → ℕ → ℕ
+copied_count amount offset source = min amount (source - (offset - 1))
+
+-- An object would be too long.
+abbrev pub is_too_long : ℕ → Bool
+is_too_long size = nat_lt object_bytes size
+
+-- The refusals of a call's arguments, in their order.
+abbrev pub argument_refusals : Call → ℕ → ℕ → List (Bool × Fault)
+argument_refusals (call.Read at amount offset) size source =
+    (is_read_out_of_range amount offset, fault.ArgOutOfRange) ∷ (nat_lt size offset, fault.NoData) ∷ []
+argument_refusals (call.Instr at pattern offset) size source =
+    (is_buffer_out_of_range pattern || offset == 0, fault.ArgOutOfRange) ∷ []
+argument_refusals (call.Compare left right amount left_offset right_offset) size source =
+    (amount == 0 || left_offset == 0 || right_offset == 0, fault.ArgOutOfRange) ∷ []
+argument_refusals (call.Write at offset buffer) size source =
+    (is_buffer_out_of_range buffer || offset == 0, fault.ArgOutOfRange)
+    ∷ (is_too_long (offset - 1 + length buffer), fault.TooLong)
+    ∷ []
+argument_refusals (call.WriteAppend at buffer) size source =
+    (is_buffer_out_of_range buffer, fault.ArgOutOfRange) ∷ (is_too_long (size + length buffer), fault.TooLong) ∷ []
+argument_refusals (call.Append at from) size source = (is_too_long (size + source), fault.TooLong) ∷ []
+argument_refusals (call.Copy at from amount to_offset from_offset) size source =
+    (amount == 0 || to_offset == 0 || from_offset == 0, fault.ArgOutOfRange)
+    ∷ (nat_lt source from_offset, fault.SourcePastEnd)
+    ∷ (is_too_long (to_offset - 1 + copied_count amount from_offset source), fault.TooLong)
+    ∷ []
+argument_refusals (call.Erase at amount offset) size source =
+    (amount == 0 || offset == 0, fault.ArgOutOfRange) ∷ []
+argument_refusals (call.Trim at new_size) size source =
+    (nat_lt 0 size && nat_lt size new_size, fault.TrimPastEnd) ∷ []
+argument_refusals (call.FragInsert at offset buffer) size source =
+    (is_buffer_out_of_range buffer || is_place_out_of_range offset size, fault.ArgOutOfRange)
+    ∷ (is_too_long (size + length buffer), fault.TooLong)
+    ∷ []
+argument_refusals (call.FragDelete at amount offset) size source =
+    (is_part_out_of_range amount offset size, fault.ArgOutOfRange) ∷ []
+argument_refusals (call.FragMove at amount from_offset to_offset) size source =
+    (is_part_out_of_range amount from_offset size || is_place_out_of_range to_offset size, fault.ArgOutOfRange) ∷ []
+argument_refusals (call.FragReplace at old_amount offset buffer) size source =
+    (is_buffer_out_of_range buffer || is_part_out_of_range old_amount offset size, fault.ArgOutOfRange)
+    ∷ (is_too_long (size - old_amount + length buffer), fault.TooLong)
+    ∷ []
+argument_refusals _ size source = []
