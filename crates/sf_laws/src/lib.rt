@@ -1,0 +1,5 @@
+//! What the definitions of the store mean: worked examples and laws.
+#![tactic(auto)]
+
+mod fragment_moves;
+mod store_of_one_block;
