@@ -1,17 +1,46 @@
--- Short ways to write histories.
-use Rattle.std.specs.Prelude.{ℕ, List, codes, map}
+-- Short ways to write calls and histories.
+use Rattle.std.specs.Prelude.{ℕ, Bool, true, false, List, [], ◌∷◌, ◌++◌, map, replicate}
 use Rattle.sf_types.specs.declared.call.Call.{Call}
+use Rattle.sf_types.specs.declared.call.Call.TheVariants as call
 use Rattle.sf_types.specs.declared.history.Entry.{Entry}
 use Rattle.sf_types.specs.declared.history.Kind.TheVariants as kind
+use Rattle.sf_types.specs.declared.history.Token.{Token}
+use Rattle.sf_types.specs.declared.options.Options.{Options}
+use Rattle.sf_types.specs.declared.reply.Reply.{Reply}
+use Rattle.sf_types.specs.Limits.{standard_options}
+use Rattle.sf_types.specs.Table.{Table, opening}
+use Rattle.sf_types.specs.Orders.{run_table, run_replies, IsLegalRun}
 
--- A call of session s that ends.
-abbrev pub ends : ℕ → Call → Entry
-ends s c = record { token = record { session = s; kind = kind.Call }; call = c }
+-- A call of session 1 that ends.
+abbrev pub ends : Call → Entry
+ends c = record { token = record { session = 1; kind = kind.Call }; call = c }
 
--- Its promise.
-abbrev pub promises : ℕ → Call → Entry
-promises s c = record { token = record { session = s; kind = kind.Promise }; call = c }
+-- Its promise. One that is granted is followed by the end of the call, one that is refused isn't.
+abbrev pub promises : Call → Entry
+promises c = record { token = record { session = 1; kind = kind.Promise }; call = c }
 
--- The calls of session 1, none of which is due.
-abbrev pub alone : List Call → List Entry
-alone calls = map (ends 1) calls
+-- A due call of session 1 with its promise and its end.
+abbrev pub flushes : Call → List Entry
+flushes c = promises c ∷ ends c ∷ []
+
+-- Calls of session 1 of which none is due.
+abbrev pub calls : List Call → List Entry
+calls cs = map ends cs
+
+-- The table at the end of a history of session 1, and the replies.
+abbrev pub end_of : Options → List Entry → Table
+end_of options history = run_table options 1 history
+
+abbrev pub replies_of : Options → List Entry → List Reply
+replies_of options history = run_replies options 1 history 1
+
+abbrev pub IsLegalAlone : Options → List Entry → Type 0
+IsLegalAlone options history = IsLegalRun (opening options 1) history
+
+-- The options of a store of so many blocks.
+abbrev pub store_of : ℕ → Options
+store_of blocks = record standard_options { capacity = blocks }
+
+-- A block of one byte.
+abbrev pub block : ℕ → List ℕ
+block b = replicate 512 b

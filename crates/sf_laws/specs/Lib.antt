@@ -1,1 +1,4 @@
+pub mod EditExamples
 pub mod Histories
+pub mod LocatorExamples
+pub mod SpaceExamples

@@ -1,5 +1,6 @@
-//! What the definitions of the store mean: worked examples and laws.
+//! What the definitions of the store mean: worked examples, and laws.
 #![tactic(auto)]
 
-mod fragment_moves;
-mod store_of_one_block;
+mod edit_examples;
+mod locator_examples;
+mod space_examples;
