@@ -3,7 +3,6 @@ use Rattle.std.proofs.Common.{◌≡◌, ℕ, ◌+◌, ◌-◌, ◌≤◌, ◌<�
 use Rattle.std.specs.Prelude.{is_some, unwrap_or, nat_le, slice_set}
 use Rattle.std.proofs.lemmas.Bool.Decides.{nat_tests}
 use Rattle.std.proofs.lemmas.Option.{slice_get-get_or}
-use Rattle.std.proofs.lemmas.List.{set-get_or}
 use Rattle.sf_types.specs.declared.reply.Reply.{Reply}
 use Rattle.sf_types.specs.declared.reply.Reply.TheVariants as reply
 use Rattle.sf_types.specs.NameMaps.{NameMap}
@@ -11,6 +10,7 @@ use Rattle.sf_types.specs.Values.{Value}
 use Rattle.sf_types.specs.Table.{Locator, Rows, Savepoint, Session, Table, new_session}
 use Rattle.sf_types.specs.Sessions.{has_session, session_of, with_session, row_value, holds, is_busy, with_lock, released, lacks_room}
 use Rattle.sf_types.specs.RowCalls.{inserted, insert, locked, lock}
+use Rattle.sf_types.specs.declared.reply.Fault.{Fault}
 use Rattle.sf_types.specs.declared.reply.Fault.TheVariants as fault
 use Rattle.std.specs.Option.{option_map}
 use Rattle.sf_types.specs.LocatorCalls.{named, no_locator, locator}
@@ -19,9 +19,10 @@ use Rattle.sf_types.specs.Ends.{committed, floor_after, with_commit, commit, end
 use Rattle.sf_types.specs.declared.call.Call.{Call}
 use Rattle.sf_types.specs.declared.call.Call.TheVariants.{WriteAppend}
 use Rattle.sf_types.specs.declared.history.Kind.TheVariants as kind
-use Rattle.sf_types.specs.Step.{put_into, write_step}
+use Rattle.sf_types.specs.Step.{put_into, write_step, step}
 use Rattle.sf_types.specs.Orders.{IsLegalWhere}
 use Rattle.sf_types.specs.Versions.{now, current}
+use Rattle.sf_types.proofs.RefusedCalls.{same_part, some-is, step_refused}
 
 within : (s n : ℕ) → IsTrue (nat_le 1 s && nat_le s n) → s - 1 < n
 within s n has = grind (arith, nat_tests)
@@ -30,12 +31,6 @@ within s n has = grind (arith, nat_tests)
 pub session_at : (t : Table) (s : ℕ) (x : Session) → IsTrue (has_session t s) → x ≡ get_or t.sessions (s - 1) x → x ≡ session_of t s
 session_at t s x has is =
     is ∙ sym (ap (λ o. unwrap_or o new_session) (slice_get-get_or t.sessions (s - 1) x (within s (length t.sessions) has)))
-
--- a session's own part put back
-pub same_part : (t : Table) (s : ℕ) → IsTrue (has_session t s) → with_session t s (session_of t s) ≡ t
-same_part t s has =
-    let own : session_of t s ≡ get_or t.sessions (s - 1) new_session = ap (λ o. unwrap_or o new_session) (slice_get-get_or t.sessions (s - 1) new_session (within s (length t.sessions) has)) in
-    ap (λ (xs : List Session). record t { sessions = xs }) (ap (slice_set t.sessions (s - 1)) own ∙ set-get_or t.sessions (s - 1) new_session)
 
 pub insert_done : (t : Table) (s : ℕ) (row : List ℕ) (locks : NameMap ℕ) (p : Session) → is_busy t.locks s row ≡ false → is_some (row_value (session_of t s) (current t row) row) ≡ false
     → locks ≡ with_lock t.locks s row → p ≡ inserted (session_of t s) row
@@ -112,3 +107,7 @@ cancel_not_legal t s c none legal = rw none at legal.standing
 
 pub has_from : (s n : ℕ) → (s ≡ 0 → ⊥) → s ≤ n → IsTrue (nat_le 1 s && nat_le s n)
 has_from s n some le = grind (arith, nat_tests)
+
+-- a refused call leaves the table as it was
+pub call_left : (t u : Table) (s : ℕ) (c : Call) (r : Reply) (f : Fault) → IsTrue (has_session t s) → ◌≡◌ {A = Table × Reply} (u, r) (step t s c) → ◌≡◌ {A = Option Reply} (Some r) (Some (reply.Refused f)) → u ≡ t
+call_left t u s c r f has done is = ap (λ d. d.0) done ∙ step_refused t s c f has (ap (λ d. d.1) (sym done) ∙ some-is r (reply.Refused f) is)

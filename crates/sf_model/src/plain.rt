@@ -11,6 +11,8 @@ ghost use Rattle.sf_types.specs.RowCalls.{inserted, locked, insert, lock};
 ghost use Rattle.sf_types.specs.LocatorCalls.{named, length_call, read_call};
 ghost use Rattle.sf_types.specs.Ends.{floor_after, commit, end};
 ghost use Rattle.sf_types.specs.declared.call.Call.TheVariants as calls;
+ghost use Rattle.sf_types.specs.declared.reply.Fault.{Fault as Refusal};
+ghost use Rattle.sf_types.specs.declared.reply.Reply.TheVariants as replies;
 ghost use Rattle.sf_types.specs.Step.{put_into, write_step, has_step, step};
 ghost use Rattle.sf_types.specs.Due.{never_due};
 ghost use Rattle.sf_types.specs.Orders.{IsLegalWhere, applied};
@@ -378,11 +380,12 @@ impl Plain {
     }
 
     /// One legal entry: the reply, and the table after it. The answer is none exactly for a promise and a cancel, and
-    /// neither is legal today. After want of memory the table is as before.
+    /// neither is legal today. After a refusal and after want of memory the table is as before.
     pub fn step(&mut self, token: Token, call: &Call) -> Mem<Option<Reply>>
         requires legal { IsLegalWhere (never_due self.old token.session call.now) self.old token.session token.kind call.now }
         requires built { IsTrue (has_step call.now) }
         ensures ok { IfOk result (λ answer. (self.new, answer) ≡ applied self.old token.session token.kind call.now) }
+        ensures refused { IfOk result (λ answer. (fault : Refusal) → answer ≡ Some (replies.Refused fault) → self.new ≡ self.old) }
         ensures err { OnErr result (self.new ≡ self.old) }
     {
         // No promise stands today, and no call is due.

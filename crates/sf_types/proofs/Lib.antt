@@ -1,3 +1,4 @@
 pub mod NameMapLemmas
+pub mod RefusedCalls
 pub mod RisingBirths
 pub mod VersionLemmas
