@@ -2,3 +2,4 @@ pub mod EditExamples
 pub mod Histories
 pub mod LocatorExamples
 pub mod SpaceExamples
+pub mod Splices

@@ -2,5 +2,6 @@
 #![tactic(auto)]
 
 mod edit_examples;
+mod edits;
 mod locator_examples;
 mod space_examples;

@@ -1,7 +1,8 @@
 -- What a script is.
-use Rattle.std.specs.Prelude.{◌≡◌, ℕ, ◌≤◌, Bool, true, false, ◌&&◌, nat_le, List, length, IsTrue}
+use Rattle.std.specs.Prelude.{◌≡◌, ℕ, ◌≤◌, Bool, true, false, not, ◌&&◌, nat_le, List, length, IsTrue}
 use Rattle.std.specs.List.{list_all, sum_by}
 use Rattle.sf_types.specs.Limits.{IsInRange}
+use Rattle.sf_types.specs.Step.{has_step}
 use Rattle.sf_types.specs.declared.options.Options.{Options}
 use Rattle.sf_types.specs.declared.call.Call.{Call}
 use Rattle.sf_types.specs.declared.call.Call.TheVariants as calls
@@ -16,15 +17,13 @@ pub record ScriptParts : Type 0 where
   pub calls : List (List Call)
   pub turns : List Turn
 
+abbrev pub is_end : Call → Bool
+is_end calls.End = true
+is_end _ = false
+
 -- A call that may stand in a script today: it has a step, and it is no End.
 abbrev pub can_stand : Call → Bool
-can_stand (calls.Insert row) = true
-can_stand (calls.Lock to row) = true
-can_stand (calls.WriteAppend at bytes) = true
-can_stand (calls.Length at) = true
-can_stand (calls.Read at amount offset) = true
-can_stand calls.Commit = true
-can_stand _ = false
+can_stand call = has_step call && not (is_end call)
 
 -- Whether a turn of a session names one of so many sessions.
 abbrev pub names_session : ℕ → Turn → Bool
