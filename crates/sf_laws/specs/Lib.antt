@@ -1,5 +1,6 @@
 pub mod EditExamples
 pub mod Histories
 pub mod LocatorExamples
+pub mod Segments
 pub mod SpaceExamples
 pub mod Splices

@@ -1,7 +1,10 @@
 //! What the definitions of the store mean: worked examples, and laws.
 #![tactic(auto)]
 
+mod cuts;
 mod edit_examples;
 mod edits;
 mod locator_examples;
+mod promises;
+mod refusals;
 mod space_examples;

@@ -1,0 +1,5 @@
+use Rattle.sf_laws.proofs.Runs.{run-blocks}
+use Rattle.sf_laws.proofs.cuts.a_run_takes_its_blocks.Goals as goal
+
+pub returns : goal.returns
+returns c = record { law = run-blocks }
