@@ -1,3 +1,4 @@
+pub mod Commits
 pub mod Least
 pub mod Runs
 pub mod Swaps

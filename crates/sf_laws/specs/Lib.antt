@@ -1,3 +1,4 @@
+pub mod Committed
 pub mod EditExamples
 pub mod Histories
 pub mod LocatorExamples

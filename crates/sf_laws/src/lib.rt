@@ -1,6 +1,7 @@
 //! What the definitions of the store mean: worked examples, and laws.
 #![tactic(auto)]
 
+mod committed;
 mod cuts;
 mod edit_examples;
 mod edits;

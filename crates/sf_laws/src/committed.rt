@@ -1,0 +1,14 @@
+//! Committed values.
+ghost use Rattle.std.specs.Prelude.{ℕ};
+ghost use Rattle.sf_types.specs.declared.history.Entry.{Entry};
+ghost use Rattle.sf_types.specs.declared.options.Options.{Options};
+ghost use Rattle.sf_types.specs.Table.{Table, opening};
+ghost use Rattle.sf_types.specs.Orders.{IsLegal, apply};
+ghost use Rattle.sf_laws.specs.Committed.{IsAllStored};
+
+/// No committed value has a fresh byte: not at the opening, and not after a legal entry where it was so before.
+pub fn committed_values_are_stored()
+    ensures opening { (options : Options) (sessions : ℕ) → IsAllStored (opening options sessions) }
+    ensures kept { (t : Table) (e : Entry) → IsLegal t e.token.session e.token.kind e.call → IsAllStored t → IsAllStored (apply t e).0 }
+{
+}
