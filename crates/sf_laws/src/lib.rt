@@ -7,5 +7,6 @@ mod edit_examples;
 mod edits;
 mod locator_examples;
 mod promises;
+mod reach;
 mod refusals;
 mod space_examples;
