@@ -1,10 +1,9 @@
 -- What entries do to the commits.
-use Rattle.std.proofs.Common.{◌≡◌, ℕ, suc, ◌+◌, ◌≤◌, Bool, true, false, not, ◌&&◌, ◌||◌, cond, List, [], ◌∷◌, ◌++◌, length, map, take, drop, Option, Some, None, refl, sym, ap, ◌∙◌, subst, arith}
-use Rattle.std.specs.Prelude.{nat_lt, flat_map}
+use Rattle.std.proofs.Common.{◌≡◌, ℕ, suc, ◌+◌, ◌≤◌, Bool, true, false, not, ◌&&◌, ◌||◌, cond, List, [], ◌∷◌, ◌++◌, length, take, drop, Option, Some, None, refl, sym, ap, subst, arith}
+use Rattle.std.specs.Prelude.{nat_lt}
 use Rattle.std.specs.List.{list_any, list_all}
 use Rattle.std.specs.Option.{option_map_or}
 use Rattle.std.proofs.lemmas.List.{length-append, length-map, length-take, length-drop}
-use Rattle.std.proofs.lemmas.Bool.Decides.{nat_tests}
 use Rattle.sf_types.specs.declared.call.Call.{Call}
 use Rattle.sf_types.specs.declared.call.Call.TheVariants as call
 use Rattle.sf_types.specs.declared.history.Kind.{Kind}
@@ -13,7 +12,7 @@ use Rattle.sf_types.specs.declared.options.Options.{Options}
 use Rattle.sf_types.specs.declared.reply.Fault.{Fault}
 use Rattle.sf_types.specs.declared.reply.Reply.{Reply}
 use Rattle.sf_types.specs.declared.reply.Reply.TheVariants as reply
-use Rattle.sf_types.specs.Values.{Value, fresh_count}
+use Rattle.sf_types.specs.Values.{Value}
 use Rattle.sf_types.specs.Table.{Content, Promise, Rows, Session, Table}
 use Rattle.sf_types.specs.Sessions.{session_of, with_session}
 use Rattle.sf_types.specs.Versions.{now}

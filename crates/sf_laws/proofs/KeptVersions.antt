@@ -1,13 +1,13 @@
 -- Which commit gave a row its value.
-use Rattle.std.proofs.Common.{◌≡◌, ℕ, zero, suc, ◌+◌, ◌-◌, ◌≤◌, ◌<◌, Bool, true, false, ◌||◌, List, [], ◌∷◌, ◌++◌, length, take, drop, take-add, get_or, Option, Some, None, refl, sym, ap, ◌∙◌, ◌⊎◌, inl, inr, arith}
+use Rattle.std.proofs.Common.{◌≡◌, ℕ, suc, ◌+◌, ◌-◌, ◌≤◌, ◌<◌, Bool, true, false, ◌||◌, List, [], ◌∷◌, ◌++◌, length, take, drop, take-add, get_or, Option, Some, None, refl, sym, ap, ◌∙◌, ◌⊎◌, inl, inr, arith}
 use Rattle.std.specs.Prelude.{nat_lt, is_none}
 use Rattle.std.proofs.lemmas.Bool.{cases_lt}
 use Rattle.std.proofs.lemmas.Bool.Decides.{nat_tests}
-use Rattle.std.proofs.lemmas.List.{drop-append-le, take-take, length-take-le, take-append-drop, drop_more, take_all, drop_all, drop-drop, get_or-take}
+use Rattle.std.proofs.lemmas.List.{drop-append-le, take-take, length-take-le, take-append-drop, drop_more, drop_all, get_or-take}
 use Rattle.sf_types.specs.NameMaps.{get}
 use Rattle.sf_types.specs.Values.{Value}
 use Rattle.sf_types.specs.Table.{Rows, Table}
-use Rattle.sf_types.specs.Versions.{or_absent, later, said, now, at}
+use Rattle.sf_types.specs.Versions.{or_absent, later, said, now}
 use Rattle.sf_types.specs.Reach.{is_kept}
 use Rattle.sf_laws.specs.KeptVersions.{IsKeptVersion, IsValueSinceFloor}
 

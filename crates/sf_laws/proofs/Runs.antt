@@ -1,5 +1,5 @@
 -- Runs of fresh bytes and their contents.
-use Rattle.std.proofs.Common.{◌≡◌, ℕ, zero, suc, ◌+◌, ◌-◌, ◌*◌, ◌≤◌, ◌<◌, Bool, true, false, ◌||◌, cond, List, [], ◌∷◌, ◌++◌, length, take, drop, take-add, map, refl, sym, ap, ◌∙◌, subst, append_assoc, arith}
+use Rattle.std.proofs.Common.{◌≡◌, ℕ, zero, suc, ◌+◌, ◌-◌, ◌*◌, ◌≤◌, ◌<◌, Bool, true, false, ◌||◌, cond, List, [], ◌∷◌, ◌++◌, length, take, drop, take-add, map, refl, sym, ap, ◌∙◌, arith}
 use Rattle.std.specs.Prelude.{All, sum_by, flat_map, filter, min}
 use Rattle.std.specs.List.{concat, list_any}
 use Rattle.std.specs.Int.{div_ceil}
@@ -7,11 +7,11 @@ use Rattle.std.proofs.lemmas.List.{length-append, length-take, length-drop, take
 use Rattle.std.proofs.lemmas.List.Elements.{All-nil, All-cons, All-append, filter-append}
 use Rattle.std.proofs.lemmas.List.Folds.{concat-append}
 use Rattle.std.proofs.lemmas.List.Sums.{sum_by-cons}
-use Rattle.std.proofs.lemmas.Grind.{div_ceil_times, flat_map-append}
-use Rattle.sf_types.specs.Values.{Mark, Zero, Fresh, Stored, Marked, Value, fresh_byte, fresh, is_fresh_mark, is_fresh, bytes_in}
+use Rattle.std.proofs.lemmas.Grind.{div_ceil_times}
+use Rattle.sf_types.specs.Values.{Mark, Zero, Fresh, Stored, Marked, fresh_byte, fresh, is_fresh_mark, is_fresh, bytes_in}
 use Rattle.sf_types.specs.Cuts.{Segment, Kept, Run, before, segments_of, parts, contents_of_run, contents_of_segment, stored_from, stored, settled_contents, settled_segments}
 use Rattle.sf_types.specs.Use.{blocks_of}
-use Rattle.sf_laws.specs.Segments.{marked_in, IsNoRunFirst, AreMaximal}
+use Rattle.sf_laws.specs.Segments.{marked_in, AreMaximal}
 
 -- a fresh byte is its byte, fresh
 fresh_mark-is : (k : Mark) → is_fresh_mark k ≡ true → Fresh ≡ k

@@ -1,5 +1,5 @@
 -- Committed values.
-use Rattle.std.specs.Prelude.{◌≡◌, Bool, true, not, List}
+use Rattle.std.specs.Prelude.{◌≡◌, Bool, true, not}
 use Rattle.std.specs.List.{list_all}
 use Rattle.sf_types.specs.Due.{has_fresh}
 use Rattle.sf_types.specs.Table.{Rows, Table}

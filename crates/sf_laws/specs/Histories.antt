@@ -1,10 +1,8 @@
 -- Short ways to write calls and histories.
-use Rattle.std.specs.Prelude.{ℕ, Bool, true, false, List, [], ◌∷◌, ◌++◌, map, replicate}
+use Rattle.std.specs.Prelude.{ℕ, List, [], ◌∷◌, map, replicate}
 use Rattle.sf_types.specs.declared.call.Call.{Call}
-use Rattle.sf_types.specs.declared.call.Call.TheVariants as call
 use Rattle.sf_types.specs.declared.history.Entry.{Entry}
 use Rattle.sf_types.specs.declared.history.Kind.TheVariants as kind
-use Rattle.sf_types.specs.declared.history.Token.{Token}
 use Rattle.sf_types.specs.declared.options.Options.{Options}
 use Rattle.sf_types.specs.declared.reply.Reply.{Reply}
 use Rattle.sf_types.specs.Limits.{standard_options}

@@ -1,8 +1,8 @@
 -- Versions of rows.
-use Rattle.std.specs.Prelude.{◌≡◌, ℕ, ◌+◌, ◌-◌, ◌≤◌, true, List, [], slice_index_or, Option, Some}
+use Rattle.std.specs.Prelude.{◌≡◌, ℕ, ◌-◌, ◌≤◌, true, List, [], slice_index_or, Some}
 use Rattle.sf_types.specs.NameMaps.{get}
 use Rattle.sf_types.specs.Values.{Value}
-use Rattle.sf_types.specs.Table.{Rows, Table}
+use Rattle.sf_types.specs.Table.{Table}
 use Rattle.sf_types.specs.Versions.{now, at}
 use Rattle.sf_types.specs.Reach.{is_kept}
 

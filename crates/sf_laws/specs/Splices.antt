@@ -1,5 +1,5 @@
 -- What an edit leaves as it was.
-use Rattle.std.specs.Prelude.{◌≡◌, ℕ, ◌+◌, ◌-◌, List, length, take, drop}
+use Rattle.std.specs.Prelude.{◌≡◌, ℕ, ◌+◌, List, length, take, drop}
 use Rattle.sf_types.specs.Values.{Marked}
 
 -- The new list has the old one's first items, then some others, and then the old one's items behind a place.

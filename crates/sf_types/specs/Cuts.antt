@@ -1,12 +1,12 @@
 -- Cuts and settling: how the fresh bytes of values become contents.
-use Rattle.std.specs.Prelude.{ℕ, zero, suc, ◌+◌, Bool, true, false, List, [], ◌∷◌, ◌++◌, map, length, take, drop, filter_map, flat_map, Option, Some, None, if◌then◌else◌}
+use Rattle.std.specs.Prelude.{ℕ, zero, suc, ◌+◌, Bool, true, false, List, [], ◌∷◌, ◌++◌, map, length, take, drop, flat_map, Some, None, if◌then◌else◌}
 use Rattle.std.specs.Option.{option_map_or}
 use Rattle.std.specs.Int.{div_ceil}
 use Rattle.sf_types.specs.declared.options.Choice.{Choice}
 use Rattle.sf_types.specs.declared.options.Choice.TheVariants as choice
 use Rattle.sf_types.specs.declared.options.Options.{Options}
 use Rattle.sf_types.specs.Limits.{content_bytes}
-use Rattle.sf_types.specs.Values.{Mark, Stored, Marked, Value, fresh, is_fresh}
+use Rattle.sf_types.specs.Values.{Stored, Marked, Value, fresh, is_fresh}
 use Rattle.sf_types.specs.Table.{Rows}
 
 -- A list of marked bytes falls into segments: bytes that aren't fresh, and runs of fresh bytes.

@@ -1,12 +1,11 @@
 -- A capacity that is enough: what is said of it here is not proved yet.
-use Rattle.std.specs.Prelude.{◌≡◌, ◌≢◌, ℕ, ◌+◌, ◌≤◌, Bool, true, false, List, [], ◌∷◌, map, length, sum, flat_map, Contains, Option, is_some, if◌then◌else◌}
+use Rattle.std.specs.Prelude.{◌≡◌, ℕ, ◌+◌, ◌≤◌, Bool, true, false, List, map, length, sum, flat_map, Contains, is_some, if◌then◌else◌}
 use Rattle.std.specs.List.{list_any}
 use Rattle.sf_types.specs.declared.call.Call.{Call}
 use Rattle.sf_types.specs.declared.call.Call.TheVariants as call
 use Rattle.sf_types.specs.declared.options.Options.{Options}
 use Rattle.sf_types.specs.declared.history.Token.{Token}
 use Rattle.sf_types.specs.declared.reply.Fault.TheVariants as fault
-use Rattle.sf_types.specs.declared.reply.Reply.{Reply}
 use Rattle.sf_types.specs.declared.reply.Reply.TheVariants.{Refused}
 use Rattle.sf_types.specs.Limits.{IsInRange}
 use Rattle.sf_types.specs.WritingCalls.{written_at}

@@ -1,8 +1,7 @@
 -- Locator calls that write nothing: Assign, Free, Length, Read, Instr and Compare. What such a call does is a function
 -- of the session's own part.
-use Rattle.std.specs.Prelude.{ℕ, ◌+◌, ◌-◌, Bool, false, nat_eq, List, [], ◌∷◌, ◌++◌, map, length, take, drop, find, bytes_eq, Option, is_none, unwrap_or}
+use Rattle.std.specs.Prelude.{ℕ, ◌+◌, ◌-◌, Bool, false, nat_eq, List, [], ◌∷◌, ◌++◌, map, length, drop, find, bytes_eq, Option, is_none, unwrap_or}
 use Rattle.std.specs.List.{range_with_len, starts_with}
-use Rattle.sf_types.specs.declared.call.Call.TheVariants as call
 use Rattle.sf_types.specs.declared.reply.Fault.{Fault}
 use Rattle.sf_types.specs.declared.reply.Fault.TheVariants as fault
 use Rattle.sf_types.specs.declared.reply.Reply.{Reply}
@@ -10,7 +9,7 @@ use Rattle.sf_types.specs.declared.reply.Reply.TheVariants as reply
 use Rattle.sf_types.specs.NameMaps.{get, put, without}
 use Rattle.sf_types.specs.Values.{Value, empty_value, strip, size_of}
 use Rattle.sf_types.specs.Edits.{part}
-use Rattle.sf_types.specs.Arguments.{argument_refusals}
+use Rattle.sf_types.specs.Arguments.{read_arguments, instr_arguments, compare_arguments}
 use Rattle.sf_types.specs.Table.{Locator, Session}
 use Rattle.sf_types.specs.Sessions.{lacks_room}
 use Rattle.sf_types.specs.Refusals.{first_of, refused_or}
@@ -73,7 +72,7 @@ length_call p at = refused_or (length_refusal p at) p (p, reply.Number (size_of 
 -- Read answers the bytes from an offset, counted from 1, amount of them or up to the end.
 abbrev pub read_refusal : Session → List ℕ → ℕ → ℕ → Option Fault
 read_refusal p at amount offset =
-    first_of (locator_refusals p (at ∷ []) ++ argument_refusals (call.Read at amount offset) (size_of (locator p at).value) 0)
+    first_of (locator_refusals p (at ∷ []) ++ read_arguments amount offset (size_of (locator p at).value))
 
 abbrev pub read_bytes : Value → ℕ → ℕ → List ℕ
 read_bytes value amount offset = part (strip value) amount offset
@@ -94,7 +93,7 @@ place_of bytes pattern offset =
 -- Instr answers that place in the locator's own value.
 abbrev pub instr_refusal : Session → List ℕ → List ℕ → ℕ → Option Fault
 instr_refusal p at pattern offset =
-    first_of (locator_refusals p (at ∷ []) ++ argument_refusals (call.Instr at pattern offset) (size_of (locator p at).value) 0)
+    first_of (locator_refusals p (at ∷ []) ++ instr_arguments pattern offset)
 
 abbrev pub instr_call : Session → List ℕ → List ℕ → ℕ → Session × Reply
 instr_call p at pattern offset =
@@ -105,8 +104,7 @@ instr_call p at pattern offset =
 -- and nothing where the offset is past the end.
 abbrev pub compare_refusal : Session → List ℕ → List ℕ → ℕ → ℕ → ℕ → Option Fault
 compare_refusal p left right amount left_offset right_offset =
-    first_of (locator_refusals p (left ∷ right ∷ [])
-    ++ argument_refusals (call.Compare left right amount left_offset right_offset) (size_of (locator p left).value) 0)
+    first_of (locator_refusals p (left ∷ right ∷ []) ++ compare_arguments amount left_offset right_offset)
 
 abbrev pub compare_call : Session → List ℕ → List ℕ → ℕ → ℕ → ℕ → Session × Reply
 compare_call p left right amount left_offset right_offset =

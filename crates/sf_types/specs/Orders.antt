@@ -9,7 +9,7 @@ use Rattle.sf_types.specs.declared.history.Kind.TheVariants as kind
 use Rattle.sf_types.specs.declared.history.Token.{Token}
 use Rattle.sf_types.specs.declared.options.Options.{Options}
 use Rattle.sf_types.specs.declared.reply.Reply.{Reply}
-use Rattle.sf_types.specs.Table.{Promise, Session, Table, opening}
+use Rattle.sf_types.specs.Table.{Promise, Table, opening}
 use Rattle.sf_types.specs.Sessions.{has_session, session_of}
 use Rattle.sf_types.specs.Due.{is_due}
 use Rattle.sf_types.specs.Step.{step}

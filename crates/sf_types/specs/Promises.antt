@@ -1,5 +1,5 @@
 -- The first step of a due call: its promise, or the refusal for want of space.
-use Rattle.std.specs.Prelude.{ℕ, ◌+◌, ◌-◌, Bool, true, false, ◌&&◌, ◌||◌, nat_le, List, [], ◌∷◌, ◌++◌, length, find, filter_map, sum_by, bytes_eq, Option, Some, None, is_some, unwrap_or, if◌then◌else◌}
+use Rattle.std.specs.Prelude.{ℕ, ◌+◌, ◌-◌, Bool, false, ◌&&◌, ◌||◌, nat_le, List, [], ◌∷◌, length, find, filter_map, sum_by, bytes_eq, Option, Some, None, is_some, unwrap_or, if◌then◌else◌}
 use Rattle.std.specs.List.{list_any, range_with_len, last_or}
 use Rattle.std.specs.Option.{option_map_or}
 use Rattle.sf_types.specs.declared.call.Call.{Call}
@@ -7,7 +7,7 @@ use Rattle.sf_types.specs.declared.reply.Fault.TheVariants as fault
 use Rattle.sf_types.specs.declared.reply.Reply.{Reply}
 use Rattle.sf_types.specs.declared.reply.Reply.TheVariants.{Refused}
 use Rattle.sf_types.specs.Births.{rising}
-use Rattle.sf_types.specs.Table.{Content, Session, Table}
+use Rattle.sf_types.specs.Table.{Content, Table}
 use Rattle.sf_types.specs.Sessions.{session_of, with_session}
 use Rattle.sf_types.specs.Versions.{now}
 use Rattle.sf_types.specs.Cuts.{Cut, cuts}

@@ -1,11 +1,10 @@
 -- Reach: the births that are still held.
-use Rattle.std.specs.Prelude.{ℕ, ◌+◌, ◌-◌, Bool, ◌||◌, nat_lt, List, [], ◌∷◌, ◌++◌, map, length, take, drop, filter_map, flat_map, slice_index_or, Option, Some, None, is_none, if◌then◌else◌}
+use Rattle.std.specs.Prelude.{ℕ, ◌+◌, ◌-◌, Bool, ◌||◌, nat_lt, List, [], ◌∷◌, ◌++◌, map, take, drop, filter_map, flat_map, slice_index_or, Option, Some, None, is_none, if◌then◌else◌}
 use Rattle.std.specs.List.{range_with_len}
 use Rattle.std.specs.Option.{option_map_or}
 use Rattle.sf_types.specs.Births.{rising}
-use Rattle.sf_types.specs.NameMaps.{NameMap}
 use Rattle.sf_types.specs.Values.{Value, births_in}
-use Rattle.sf_types.specs.Table.{Promise, Rows, Session, Table}
+use Rattle.sf_types.specs.Table.{Rows, Session, Table}
 use Rattle.sf_types.specs.Versions.{said, now, present}
 
 -- Who holds births: a version of a row, by the number of the commit that made it; a session with its values; a session's

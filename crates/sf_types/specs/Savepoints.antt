@@ -1,5 +1,5 @@
 -- Savepoints: Savepoint and RollbackTo.
-use Rattle.std.specs.Prelude.{ℕ, ◌+◌, ◌==◌, Bool, true, not, ◌&&◌, ◌||◌, nat_le, List, [], ◌∷◌, ◌++◌, map, filter, find, length, Option, Some, None, is_none, unwrap_or, if◌then◌else◌}
+use Rattle.std.specs.Prelude.{ℕ, ◌+◌, ◌==◌, Bool, true, not, ◌&&◌, ◌||◌, nat_le, List, [], ◌∷◌, ◌++◌, map, filter, find, length, Option, is_none, unwrap_or, if◌then◌else◌}
 use Rattle.std.specs.List.{list_any}
 use Rattle.sf_types.specs.declared.reply.Fault.{Fault}
 use Rattle.sf_types.specs.declared.reply.Fault.TheVariants as fault
@@ -8,7 +8,7 @@ use Rattle.sf_types.specs.declared.reply.Reply.TheVariants.{Done}
 use Rattle.sf_types.specs.Limits.{savepoints_per_session}
 use Rattle.sf_types.specs.NameMaps.{NameMap, is_name_of}
 use Rattle.sf_types.specs.Values.{empty_value}
-use Rattle.sf_types.specs.Table.{Locator, Rows, Savepoint, Session, Table}
+use Rattle.sf_types.specs.Table.{Locator, Savepoint, Session, Table}
 use Rattle.sf_types.specs.Sessions.{with_session}
 use Rattle.sf_types.specs.Refusals.{first_of, refused_or}
 

@@ -15,11 +15,11 @@ use Rattle.sf_types.specs.declared.place.Place.{Place}
 use Rattle.sf_types.specs.declared.place.RowEnd.{RowEnd}
 use Rattle.sf_types.specs.declared.place.Run.{Run}
 use Rattle.sf_types.specs.declared.reply.Reply.{Reply}
-use Rattle.sf_types.specs.Table.{Content, Table}
+use Rattle.sf_types.specs.Table.{Table}
 use Rattle.sf_types.specs.Texts.{text_of_reply}
 use Rattle.sf_types.specs.Versions.{now}
 use Rattle.sf_types.specs.Rows.{ends_of}
-use Rattle.sf_types.specs.Use.{content_of, blocks_of}
+use Rattle.sf_types.specs.Use.{content_of}
 use Rattle.sf_types.specs.Orders.{IsWhole, run_table, run_replies}
 use Rattle.sf_types.specs.Placings.{Placed, AreRuns, IsSafe, blocks_in}
 

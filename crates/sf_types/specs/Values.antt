@@ -1,5 +1,5 @@
 -- Marked bytes, and the values of rows.
-use Rattle.std.specs.Prelude.{ℕ, Bool, true, false, List, [], map, length, filter, filter_map, Option, Some, None, nat_le}
+use Rattle.std.specs.Prelude.{ℕ, Bool, true, false, List, [], map, length, filter, filter_map, Option, Some, None}
 use Rattle.sf_types.specs.declared.options.Choice.{Choice}
 use Rattle.sf_types.specs.declared.options.Choice.TheVariants as choice
 use Rattle.sf_types.specs.Births.{rising}
@@ -42,7 +42,7 @@ bytes_in marked = map (λ m. m.byte) marked
 
 -- The bytes of a value, without their marks.
 abbrev pub strip : Value → List ℕ
-strip v = map (λ m. m.byte) v.bytes
+strip v = bytes_in v.bytes
 
 -- The number of bytes of a value.
 abbrev pub size_of : Value → ℕ

@@ -1,7 +1,7 @@
 -- Writing calls: Write, WriteAppend, Append, Copy, Erase, Trim, the four fragment calls and SetOptions. What such a call
 -- does is a function of the session's own part, of whether it holds the lock of the locator's row, and of what that row
 -- holds.
-use Rattle.std.specs.Prelude.{ℕ, ◌-◌, ◌==◌, Bool, true, false, not, ◌&&◌, List, [], ◌∷◌, ◌++◌, Option, Some, None, is_none, unwrap_or, if◌then◌else◌}
+use Rattle.std.specs.Prelude.{ℕ, ◌==◌, Bool, true, not, ◌&&◌, List, [], ◌∷◌, ◌++◌, Option, Some, None, is_none, unwrap_or, if◌then◌else◌}
 use Rattle.std.specs.Option.{option_map_or}
 use Rattle.sf_types.specs.declared.call.Call.{Call}
 use Rattle.sf_types.specs.declared.call.Call.TheVariants as call
@@ -17,7 +17,7 @@ use Rattle.sf_types.specs.Edits as edits
 use Rattle.sf_types.specs.Arguments.{argument_refusals}
 use Rattle.sf_types.specs.Table.{Locator, Session}
 use Rattle.sf_types.specs.Sessions.{transaction, row_value}
-use Rattle.sf_types.specs.LocatorCalls.{named, locator, locator_refusals}
+use Rattle.sf_types.specs.LocatorCalls.{locator, locator_refusals}
 use Rattle.sf_types.specs.Refusals.{first_of, refused_or}
 
 -- The locator through which a call writes, or none where it is no writing call.

@@ -1,7 +1,7 @@
-use Rattle.std.proofs.Common.{◌≡◌, ℕ, ◌+◌, ◌-◌, ◌≤◌, ◌<◌, false, true, List, length, Option, Some, None, refl, sym, ap, ◌∙◌, arith}
+use Rattle.std.proofs.Common.{◌≡◌, ℕ, ◌+◌, ◌-◌, ◌≤◌, ◌<◌, false, List, length, Option, Some, None, refl, ap, ◌∙◌, arith}
 use Rattle.std.specs.Prelude.{find, unwrap_or}
 use Rattle.std.specs.List.{range_with_len}
-use Rattle.sf_types.specs.LocatorCalls.{stands_at, place_of}
+use Rattle.sf_types.specs.LocatorCalls.{stands_at}
 use Rattle.sf_laws.proofs.Least.{IsLeastFrom, found-least, found-none}
 use Rattle.sf_laws.proofs.promises.the_least_place_is_answered.Goals as goal
 
