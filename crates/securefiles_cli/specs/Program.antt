@@ -62,11 +62,11 @@ pub record IsRefusedOut (input : List ℕ) (left before after : Option (List ℕ
   pub ended : IsReadFor fault.reason input left
   pub written : GrowsBy before after (refusal_line fault)
 
--- An output that the sink didn't take whole: under `play` the input was read for it as for any answer, and a front of
--- the output that is due was taken.
-pub record IsCutOff (words : List (String Global)) (input : List ℕ) (left before after : Option (List ℕ)) : Type 0 where
-  pub ended : IsTrue (is_play words) → IsReadAs (script_of input) input left
-  pub written : GrowsByFront before after (due_output words input)
+-- An output of `play` that the sink didn't take whole: the bytes of the source were read as far as for the whole
+-- output, and a front of it was taken.
+pub record IsCutOff (input : List ℕ) (left before after : Option (List ℕ)) : Type 0 where
+  pub ended : IsReadAs (script_of input) input left
+  pub written : GrowsByFront before after (output_of (script_of input))
 
 -- Where the answer stops before the output, memory was wanted, or under `play` the source failed and its count of faults
 -- rose.

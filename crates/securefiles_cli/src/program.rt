@@ -6,6 +6,7 @@ ghost use Rattle.sf_outside.specs.Sink.{GrowsBy};
 ghost use Rattle.sf_script.specs.Scripts.{script_of};
 ghost use Rattle.securefiles_cli.specs.declared.status.Status.TheVariants as status;
 ghost use Rattle.securefiles_cli.specs.Inputs.{IsReadAs};
+ghost use Rattle.securefiles_cli.specs.Outputs.{GrowsByFront};
 ghost use Rattle.securefiles_cli.specs.Transcripts.{line};
 ghost use Rattle.securefiles_cli.specs.Program.{is_play, usage_line, refusal_line, status_of, output_of, due_status, due_output, IsOfWords, IsStop, IsDue, IsPlayedOut, IsRefusedOut, IsCutOff};
 
@@ -132,8 +133,10 @@ pub fn securefiles_plain<S: Source, K: Sink>(
     // A fault was counted in this call, and what was written then.
     ensures read_fault { result ≡ status.ReadFault →
         IsTrue (is_play words.now) × Rose (S.faults source.old) (S.faults source.new) × (sink.new ≡ sink.old) }
-    ensures write_fault { result ≡ status.WriteFault → Rose (K.faults sink.old) (K.faults sink.new) × IfSome (S.left source.old) (λ input.
-        IsCutOff words.now input (S.left source.new) (K.taken sink.old) (K.taken sink.new)) }
+    ensures write_fault { result ≡ status.WriteFault → Rose (K.faults sink.old) (K.faults sink.new) }
+    ensures output_front { result ≡ status.WriteFault → IsTrue (is_play words.now) → IfSome (S.left source.old) (λ input.
+        IsCutOff input (S.left source.new) (K.taken sink.old) (K.taken sink.new)) }
+    ensures usage_front { result ≡ status.WriteFault → is_play words.now ≡ false → GrowsByFront (K.taken sink.old) (K.taken sink.new) usage_line }
     ensures memory { result ≡ status.OutOfMemory → sink.new ≡ sink.old }
 
     // Every status has its cause.
