@@ -11,6 +11,8 @@ use Rattle.sf_script.specs.Scripts.{script_of}
 use Rattle.sf_script.specs.declared.fault.ScriptFault.{ScriptFault}
 use Rattle.securefiles_cli.specs.declared.status.Status.{Status}
 use Rattle.securefiles_cli.specs.declared.status.Status.TheVariants as status
+use Rattle.securefiles_cli.specs.Inputs.{IsReadFor, IsReadAs}
+use Rattle.securefiles_cli.specs.Outputs.{GrowsByFront}
 use Rattle.securefiles_cli.specs.Plays.{transcript_of}
 use Rattle.sf_types.specs.Transcripts.{line}
 
@@ -52,20 +54,29 @@ pub record IsPlayedOut (input : List ℕ) (left before after : Option (List ℕ)
   pub reads : script_of input ≡ Ok script
   pub written : GrowsBy before after (transcript_of script)
 
--- A refused script: the bytes of the source are no script, and what the sink took is the line that says so.
-pub record IsRefusedOut (input : List ℕ) (before after : Option (List ℕ)) : Type 0 where
+-- A refused script: the bytes of the source are no script, they were read as far as the reason asks, and what the sink
+-- took is the line that says so.
+pub record IsRefusedOut (input : List ℕ) (left before after : Option (List ℕ)) : Type 0 where
   pub fault : ScriptFault
   pub reads : script_of input ≡ Err fault
+  pub ended : IsReadFor fault.reason input left
   pub written : GrowsBy before after (refusal_line fault)
 
--- Where the answer stops before the output, memory was wanted, or the source failed and its count of faults rose.
-abbrev pub IsStop : ℕ → ℕ → Status → Type 0
-IsStop before now status.OutOfMemory = Unit {0}
-IsStop before now status.ReadFault = Rose before now
-IsStop before now status.Done = ⊥
-IsStop before now status.Usage = ⊥
-IsStop before now status.ScriptRefused = ⊥
-IsStop before now status.WriteFault = ⊥
+-- An output of `play` that the sink didn't take whole: the bytes of the source were read as far as for the whole
+-- output, and a front of it was taken.
+pub record IsCutOff (input : List ℕ) (left before after : Option (List ℕ)) : Type 0 where
+  pub ended : IsReadAs (script_of input) input left
+  pub written : GrowsByFront before after (output_of (script_of input))
+
+-- Where the answer stops before the output, memory was wanted, or under `play` the source failed and its count of faults
+-- rose.
+abbrev pub IsStop : List (String Global) → ℕ → ℕ → Status → Type 0
+IsStop words before now status.OutOfMemory = Unit {0}
+IsStop words before now status.ReadFault = IsTrue (is_play words) × Rose before now
+IsStop words before now status.Done = ⊥
+IsStop words before now status.Usage = ⊥
+IsStop words before now status.ScriptRefused = ⊥
+IsStop words before now status.WriteFault = ⊥
 
 -- An answer of the words alone: `play` is never answered by the usage line, and other words always are.
 pub record IsOfWords (words : List (String Global)) (answer : Status) (text : List ℕ) : Type 0 where

@@ -41,7 +41,7 @@ fn zeros(alloc: Global, count: usize) -> Result<Vec<u8>, AllocError>
 
 /// Reads the input to its end, or up to 16,777,217 bytes. Each turn of its loop takes at least one byte, or ends it.
 pub fn read_input<S: Source>(alloc: Global, source: &mut S) -> Result<Vec<u8>, ReadError>
-    ensures read { IfSome (S.left source.old) (λ all. IfOk result (λ bytes. IsRead all (S.left source.new) bytes.items)) }
+    ensures read { IfSome (S.left source.old) (λ input. IfOk result (λ bytes. IsRead input (S.left source.new) bytes.items)) }
     ensures later { S.faults source.old ≤ S.faults source.new }
     ensures cause { IfErr result (IsCause (S.faults source.old) (S.faults source.new)) }
 {

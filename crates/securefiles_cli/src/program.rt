@@ -5,9 +5,10 @@ ghost use Rattle.sf_outside.specs.Causes.{Rose};
 ghost use Rattle.sf_outside.specs.Sink.{GrowsBy};
 ghost use Rattle.sf_script.specs.Scripts.{script_of};
 ghost use Rattle.securefiles_cli.specs.declared.status.Status.TheVariants as status;
+ghost use Rattle.securefiles_cli.specs.Inputs.{IsReadAs};
 ghost use Rattle.securefiles_cli.specs.Outputs.{GrowsByFront};
 ghost use Rattle.sf_types.specs.Transcripts.{line};
-ghost use Rattle.securefiles_cli.specs.Program.{is_play, usage_line, refusal_line, status_of, output_of, due_status, due_output, IsOfWords, IsStop, IsDue, IsPlayedOut, IsRefusedOut};
+ghost use Rattle.securefiles_cli.specs.Program.{is_play, usage_line, refusal_line, status_of, output_of, due_status, due_output, IsOfWords, IsStop, IsDue, IsPlayedOut, IsRefusedOut, IsCutOff};
 
 use crate::input::{ReadError, read_input};
 use crate::output::write_output;
@@ -87,8 +88,10 @@ fn answer_words<S: Source>(
     ensures due { IfSome (S.left source.old) (λ input. IfOk result (λ answer.
         (answer.status ≡ due_status words.now input) × (answer.text.items ≡ due_output words.now input))) }
     ensures words { IfOk result (λ answer. IsOfWords words.now answer.status answer.text.items) }
-    ensures ended { IfSome (S.left source.old) (λ _. IfOk result (λ answer. answer.status ≡ status.Done → S.left source.new ≡ Some [])) }
-    ensures stopped { IfErr result (IsStop (S.faults source.old) (S.faults source.new)) }
+    ensures ended { IfSome (S.left source.old) (λ input. IfOk result (λ _.
+        IsTrue (is_play words.now) → IsReadAs (script_of input) input (S.left source.new))) }
+    ensures unread { is_play words.now ≡ false → source.new ≡ source.old }
+    ensures stopped { IfErr result (IsStop words.now (S.faults source.old) (S.faults source.new)) }
     ensures later { S.faults source.old ≤ S.faults source.new }
 {
     if !is_play(words) {
@@ -119,18 +122,22 @@ pub fn securefiles_plain<S: Source, K: Sink>(
         IsPlayedOut input (S.left source.new) (K.taken sink.old) (K.taken sink.new)) }
     ensures done_words { result ≡ status.Done → IsTrue (is_play words.now) }
 
-    // Why a script is refused, and what is written then.
+    // Why a script is refused, how far it was read, and what is written then.
     ensures script_refused { result ≡ status.ScriptRefused → IsTrue (is_play words.now) × IfSome (S.left source.old) (λ input.
-        IsRefusedOut input (K.taken sink.old) (K.taken sink.new)) }
+        IsRefusedOut input (S.left source.new) (K.taken sink.old) (K.taken sink.new)) }
 
-    // The words are no command.
+    // The words are no command. The source is then as it was.
     ensures usage { result ≡ status.Usage → (is_play words.now ≡ false) × GrowsBy (K.taken sink.old) (K.taken sink.new) usage_line }
+    ensures unread { is_play words.now ≡ false → source.new ≡ source.old }
 
     // A fault was counted in this call, and what was written then.
-    ensures read_fault { result ≡ status.ReadFault → Rose (S.faults source.old) (S.faults source.new) × (K.taken sink.new ≡ K.taken sink.old) }
-    ensures write_fault { result ≡ status.WriteFault → Rose (K.faults sink.old) (K.faults sink.new) × IfSome (S.left source.old) (λ input.
-        GrowsByFront (K.taken sink.old) (K.taken sink.new) (due_output words.now input)) }
-    ensures memory { result ≡ status.OutOfMemory → K.taken sink.new ≡ K.taken sink.old }
+    ensures read_fault { result ≡ status.ReadFault →
+        IsTrue (is_play words.now) × Rose (S.faults source.old) (S.faults source.new) × (sink.new ≡ sink.old) }
+    ensures write_fault { result ≡ status.WriteFault → Rose (K.faults sink.old) (K.faults sink.new) }
+    ensures output_front { result ≡ status.WriteFault → IsTrue (is_play words.now) → IfSome (S.left source.old) (λ input.
+        IsCutOff input (S.left source.new) (K.taken sink.old) (K.taken sink.new)) }
+    ensures usage_front { result ≡ status.WriteFault → is_play words.now ≡ false → GrowsByFront (K.taken sink.old) (K.taken sink.new) usage_line }
+    ensures memory { result ≡ status.OutOfMemory → sink.new ≡ sink.old }
 
     // Every status has its cause.
     ensures due { IfSome (S.left source.old) (λ input. IsDue result (due_status words.now input)) }

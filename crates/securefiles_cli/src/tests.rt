@@ -1,3 +1,5 @@
+ghost use Rattle.std.specs.Prelude.{◌≤◌};
+
 use crate::program::securefiles_plain;
 use crate::status::Status;
 use sf_outside::{MemSink, MemSource};
@@ -24,12 +26,38 @@ const REFUSED_TRANSCRIPT: &str =
 
 const USAGE: &str = "usage: securefiles_cli play | run | check | bench SEED SESSIONS CALLS\n";
 
-// The words, and the status and the output for an input.
-fn ran(alloc: Global, word: &str, input: &str) -> Result<(Status, MemSink), Fail> {
+// Whole texts that are refused, and the line that says so.
+const REFUSED_TEXTS: [(&[u8], &str); 5] = [
+    (b"", "script refused: line 1: short\n"),
+    (
+        b"securefiles 1\ncapacity 5\n",
+        "script refused: line 2: later\n",
+    ),
+    (
+        b"securefiles 1\nsessions 2\n",
+        "script refused: line 2: later\n",
+    ),
+    (
+        b"securefiles 1\nsessions 1\n1: writeappend p \"ab",
+        "script refused: line 3: bytes\n",
+    ),
+    (
+        b"securefiles 1\nsessions 1\n1: writeappend p \"\xC3\"\n",
+        "script refused: line 3: bytes\n",
+    ),
+];
+
+fn refused_texts() -> &'static [(&'static [u8], &'static str)] {
+    &REFUSED_TEXTS
+}
+
+// The status and the output for a word and an input, read in pieces of so many bytes.
+fn ran(alloc: Global, word: &str, input: Vec<u8>, piece: usize) -> Result<(Status, MemSink), Fail>
+    requires { 1 ≤ piece }
+{
     let mut words = Vec::new(alloc);
     words.push(word.to_string(alloc)?)?;
-    let bytes = Vec::from_slice(alloc, input.as_bytes())?;
-    let mut source = MemSource::new(bytes, 7, Vec::new(alloc));
+    let mut source = MemSource::new(input, piece, Vec::new(alloc));
     let mut sink = MemSink::new(alloc, 1000, 5, Vec::new(alloc))
         .ok()
         .ok_or("memory")?;
@@ -50,18 +78,12 @@ fn plays_scripts(rt: HostRuntime) -> Result<(), Fail> {
             Status::ScriptRefused,
             "script refused: line 3: place\n",
         ),
-        (
-            "play",
-            "1: writeappend p \"ab",
-            Status::ScriptRefused,
-            "script refused: line 3: bytes\n",
-        ),
         ("played", FIRST_PATH, Status::Usage, USAGE),
     ];
     for (word, calls, status, output) in rows {
-        let mut input = HEADER.to_string(alloc)?;
-        input.push_str(calls)?;
-        let (ended, sink) = ran(alloc, word, input.as_str())?;
+        let mut input = HEADER.as_bytes().to_vec(alloc)?;
+        input.extend_from_slice(calls.as_bytes())?;
+        let (ended, sink) = ran(alloc, word, input, 7)?;
         assert_eq!(rt; ended, status, "{calls}");
         assert_eq!(rt; sink.bytes(), output.as_bytes(), "{calls}");
     }
@@ -71,45 +93,51 @@ fn plays_scripts(rt: HostRuntime) -> Result<(), Fail> {
 #[test]
 fn refuses_scripts(rt: HostRuntime) -> Result<(), Fail> {
     let alloc = rt.alloc();
-    let rows = [
-        ("", "script refused: line 1: short\n"),
-        (
-            "securefiles 1\ncapacity 5\n",
-            "script refused: line 2: later\n",
-        ),
-        (
-            "securefiles 1\nsessions 2\n",
-            "script refused: line 2: later\n",
-        ),
-    ];
-    for (input, line) in rows {
-        let (ended, sink) = ran(alloc, "play", input)?;
-        assert_eq!(rt; ended, Status::ScriptRefused, "{input}");
-        assert_eq!(rt; sink.bytes(), line.as_bytes(), "{input}");
+    for (input, line) in refused_texts() {
+        let (ended, sink) = ran(alloc, "play", input.to_vec(alloc)?, 7)?;
+        assert_eq!(rt; ended, Status::ScriptRefused, "{input:?}");
+        assert_eq!(rt; sink.bytes(), line.as_bytes(), "{input:?}");
     }
+    let long = vec![in alloc; b'a'; 16_777_217]?;
+    let (ended, sink) = ran(alloc, "play", long, 1_000_000)?;
+    assert_eq!(rt; ended, Status::ScriptRefused);
+    assert_eq!(rt; sink.bytes(), b"script refused: line 0: size\n".as_slice());
     Ok(())
 }
 
-// The first path with a source whose second read fails, and with a sink whose first write fails.
+// The first path with a source and a sink that fail at the calls with these numbers, none of them at 0.
+fn ran_failing(alloc: Global, read: u64, write: u64) -> Result<(Status, MemSink), Fail> {
+    let mut words = Vec::new(alloc);
+    words.push("play".to_string(alloc)?)?;
+    let mut input = HEADER.as_bytes().to_vec(alloc)?;
+    input.extend_from_slice(FIRST_PATH.as_bytes())?;
+    let mut source = MemSource::new(input, 10, Vec::from_slice(alloc, &[read])?);
+    let writes = Vec::from_slice(alloc, &[write])?;
+    let mut sink = MemSink::new(alloc, 264, 10, writes).ok().ok_or("memory")?;
+    let status = securefiles_plain(alloc, &words, &mut source, &mut sink);
+    Ok((status, sink))
+}
+
+// Its script has 108 bytes, so that it is read in 12 calls, and its transcript, in pieces of 10 bytes, is written in 18.
 #[test]
 fn faults_are_told(rt: HostRuntime) -> Result<(), Fail> {
     let alloc = rt.alloc();
-    let mut words = Vec::new(alloc);
-    words.push("play".to_string(alloc)?)?;
-    for (failing_reads, failing_writes, status) in [
-        (2, 0, Status::ReadFault),
-        (0, 1, Status::WriteFault),
-    ] {
-        let mut input = Vec::from_slice(alloc, HEADER.as_bytes())?;
-        input.extend_from_slice(FIRST_PATH.as_bytes())?;
-        let reads = Vec::from_slice(alloc, &[failing_reads])?;
-        let writes = Vec::from_slice(alloc, &[failing_writes])?;
-        let mut source = MemSource::new(input, 10, reads);
-        let mut sink = MemSink::new(alloc, 264, 10, writes).ok().ok_or("memory")?;
-        let ended = securefiles_plain(alloc, &words, &mut source, &mut sink);
-        assert_eq!(rt; ended, status);
-        assert_eq!(rt; sink.bytes().len(), 0);
+    for read in 1..13 {
+        let (ended, sink) = ran_failing(alloc, read, 0)?;
+        assert_eq!(rt; ended, Status::ReadFault, "{read}");
+        assert_eq!(rt; sink.bytes().len(), 0, "{read}");
     }
+    for write in 1..19 {
+        let (ended, sink) = ran_failing(alloc, 0, write)?;
+        assert_eq!(rt; ended, Status::WriteFault, "{write}");
+        assert_eq!(rt; sink.bytes().len(), (write as usize - 1) * 10, "{write}");
+        assert!(rt;
+            FIRST_TRANSCRIPT.as_bytes().starts_with(sink.bytes()),
+            "{write}"
+        );
+    }
+    let (ended, _) = ran_failing(alloc, 13, 19)?;
+    assert_eq!(rt; ended, Status::Done);
     Ok(())
 }
 

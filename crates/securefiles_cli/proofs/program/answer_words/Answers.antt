@@ -1,8 +1,8 @@
-use Rattle.std.proofs.Common.{◌≡◌, true, ap, sym, ◌∙◌}
+use Rattle.std.proofs.Common.{◌≡◌, true, ap, refl, sym, ◌∙◌}
 use Rattle.sf_script.specs.Scripts.{script_of}
 use Rattle.securefiles_cli.specs.Program.{is_play, status_of, output_of}
 use Rattle.securefiles_cli.specs.Inputs.{IsRead}
-use Rattle.securefiles_cli.proofs.Answered.{if_some, script_read, script_ended}
+use Rattle.securefiles_cli.proofs.Answered.{if_some, script_read, read_as}
 use Rattle.securefiles_cli.proofs.program.answer_words.Goals as goal
 
 pub returns-clause-due : goal.returns-clause-due
@@ -10,7 +10,7 @@ returns-clause-due g c =
     let after = g.S.Source.left c.read_input.new.source in
     let bytes = c.in-Ok.input.items in
     let play : is_play c.args.words.now ≡ true = sym c.is_play.ensures ∙ c.if-not-is_play.false in
-    if_some (g.S.Source.left c.args.source.now) (λ all. IsRead all after bytes) _
+    if_some (g.S.Source.left c.args.source.now) (λ input. IsRead input after bytes) _
     (λ input read.
     let same = ap script_of c.deref.ensures.value ∙ script_read input bytes after read in
     (rw play (c.in_ok-answer.ensures.status ∙ ap status_of same), rw play (c.in_ok-answer.ensures.text ∙ ap output_of same)))
@@ -20,6 +20,6 @@ pub returns-clause-ended : goal.returns-clause-ended
 returns-clause-ended g c =
     let after = g.S.Source.left c.read_input.new.source in
     let bytes = c.in-Ok.input.items in
-    if_some (g.S.Source.left c.args.source.now) (λ all. IsRead all after bytes) _
-    (λ input read done. script_ended input bytes after read (ap (λ xs. status_of (script_of xs)) (sym c.deref.ensures.value) ∙ sym c.in_ok-answer.ensures.status ∙ done))
+    if_some (g.S.Source.left c.args.source.now) (λ input. IsRead input after bytes) _
+    (λ input read play. read_as input after (script_of input) refl read.others)
     c.in-Ok.ensures.read
