@@ -6,3 +6,4 @@ pub mod LocatorExamples
 pub mod Segments
 pub mod SpaceExamples
 pub mod Splices
+pub mod TranscriptExamples

@@ -10,3 +10,4 @@ mod promises;
 mod reach;
 mod refusals;
 mod space_examples;
+mod transcript_examples;

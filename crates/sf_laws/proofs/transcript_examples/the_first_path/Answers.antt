@@ -1,0 +1,61 @@
+use Rattle.std.proofs.Common.{◌≡◌, ◌<◌, [], ◌∷◌, length, map, rules, refl, arith}
+use Rattle.std.proofs.lemmas.List.Elements.{All-nil, All-cons}
+use Rattle.sf_types.specs.declared.place.Place.{Place}
+use Rattle.sf_types.specs.Limits.{standard_options}
+use Rattle.sf_types.specs.Table.{Table, opening}
+use Rattle.sf_types.specs.Use.{blocks_of_birth}
+use Rattle.sf_types.specs.Orders.{IsLegalRun, IsWhole, run_table}
+use Rattle.sf_types.specs.Placings.{Placed, AreRuns, IsSafe}
+use Rattle.sf_types.specs.Transcripts.{placed_at, place_at}
+use Rattle.sf_laws.specs.TranscriptExamples.{first_calls, first_history}
+use Rattle.sf_laws.proofs.transcript_examples.the_first_path.Goals as goal
+
+legal-is : IsLegalRun (opening standard_options 1) first_history
+legal-is = search rules
+
+abbrev whole-is : IsWhole standard_options (first_calls ∷ []) (map (λ e. e.token) first_history)
+whole-is = record {
+  history = first_history;
+  tokens = refl;
+  uncancelled = refl;
+  legal = legal-is;
+  own = refl;
+}
+
+pub returns-clause-whole : goal.returns-clause-whole
+returns-clause-whole c = whole-is
+
+-- the one content stands in the first block
+abbrev place : Place
+place = place_at (run_table standard_options 1 first_history) 1 (record { first = 0; blocks = 1 } ∷ [])
+
+abbrev end : Table
+end = run_table standard_options 1 first_history
+
+abbrev HasItsBlocks : Placed → Type 0
+HasItsBlocks x = length x.blocks ≡ blocks_of_birth end.contents x.birth
+
+abbrev IsTold : Place → Type 0
+IsTold x = x ≡ place_at end x.birth x.runs
+
+abbrev HasRuns : Place → Type 0
+HasRuns x = AreRuns x.runs
+
+safe-is : IsSafe (run_table standard_options 1 first_history) (placed_at place ∷ [])
+safe-is = record {
+  births = refl;
+  counts = All-cons HasItsBlocks (placed_at place) [] refl (All-nil HasItsBlocks);
+  below = All-cons (λ block. block < 1024) 0 [] (omega arith) (All-nil (λ block. block < 1024));
+  once = λ i j d less within. absurd (omega (arith, less, within));
+}
+
+pub returns-clause-right : goal.returns-clause-right
+returns-clause-right c = record {
+  order = map (λ e. e.token) first_history;
+  whole = whole-is;
+  places = place ∷ [];
+  told = All-cons IsTold place [] refl (All-nil IsTold);
+  runs = All-cons HasRuns place [] (omega arith) (All-nil HasRuns);
+  safe = safe-is;
+  text = refl;
+}
