@@ -9,13 +9,20 @@ use Rattle.sf_types.specs.Limits.{standard_options}
 use Rattle.sf_types.specs.Table.{Table, opening}
 use Rattle.sf_types.specs.Orders.{run_table, run_replies, IsLegalRun}
 
--- A call of session 1 that ends.
-abbrev pub ends : Call → Entry
-ends c = record { token = record { session = 1; kind = kind.Call }; call = c }
+-- A call of a session that ends.
+abbrev pub ends_in : ℕ → Call → Entry
+ends_in s c = record { token = record { session = s; kind = kind.Call }; call = c }
 
 -- Its promise. One that is granted is followed by the end of the call, one that is refused isn't.
+abbrev pub promises_in : ℕ → Call → Entry
+promises_in s c = record { token = record { session = s; kind = kind.Promise }; call = c }
+
+-- The same of session 1.
+abbrev pub ends : Call → Entry
+ends c = ends_in 1 c
+
 abbrev pub promises : Call → Entry
-promises c = record { token = record { session = 1; kind = kind.Promise }; call = c }
+promises c = promises_in 1 c
 
 -- A due call of session 1 with its promise and its end.
 abbrev pub flushes : Call → List Entry

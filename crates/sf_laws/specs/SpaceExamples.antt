@@ -4,7 +4,7 @@ use Rattle.sf_types.specs.declared.call.Call.{Call}
 use Rattle.sf_types.specs.declared.call.Call.TheVariants as call
 use Rattle.sf_types.specs.declared.history.Entry.{Entry}
 use Rattle.sf_types.specs.declared.options.Options.{Options}
-use Rattle.sf_laws.specs.Histories.{calls, flushes, promises, store_of, block}
+use Rattle.sf_laws.specs.Histories.{ends_in, promises_in, calls, flushes, promises, store_of, block}
 
 -- A store of one block that flushes at 512 fresh bytes.
 abbrev pub one_block : Options
@@ -105,3 +105,25 @@ shared_history =
     ∷ [])
     ++ flushes call.Commit
     ++ calls (call.End ∷ [])
+
+-- Two sessions write equal bytes into rows of their own, and both ask for space before either publishes.
+abbrev pub two_writers : List Entry
+two_writers =
+    ends_in 1 (call.Insert (codes "a"))
+    ∷ ends_in 1 (call.Lock (codes "p") (codes "a"))
+    ∷ ends_in 2 (call.Insert (codes "b"))
+    ∷ ends_in 2 (call.Lock (codes "q") (codes "b"))
+    ∷ ends_in 1 (call.WriteAppend (codes "p") (codes "abc"))
+    ∷ promises_in 1 call.Commit
+    ∷ ends_in 2 (call.WriteAppend (codes "q") (codes "abc"))
+    ∷ promises_in 2 call.Commit
+    ∷ []
+
+-- Where there are two blocks, both promises are granted, and the second publication finds the first one's content.
+abbrev pub both_promised : List Entry
+both_promised =
+    two_writers ++ ends_in 1 call.Commit ∷ ends_in 2 call.Commit ∷ ends_in 1 call.End ∷ ends_in 2 call.End ∷ []
+
+-- Where there is one, the second promise is refused, which ends its call.
+abbrev pub one_promised : List Entry
+one_promised = two_writers ++ ends_in 2 call.End ∷ ends_in 1 call.Commit ∷ ends_in 1 call.End ∷ []

@@ -2,12 +2,14 @@
 ghost use Rattle.std.specs.Prelude.{◌≡◌, [], ◌∷◌, codes, map};
 ghost use Rattle.sf_types.specs.declared.reply.Reply.TheVariants as reply;
 ghost use Rattle.sf_types.specs.declared.reply.Fault.TheVariants as fault;
+ghost use Rattle.sf_types.specs.Orders.{IsLegalRun, run_table, run_replies};
+ghost use Rattle.sf_types.specs.Table.{opening};
 ghost use Rattle.sf_types.specs.Reach.{reach};
 ghost use Rattle.sf_types.specs.Use.{free_of};
 ghost use Rattle.sf_types.specs.Versions.{now, present_rows};
 ghost use Rattle.sf_types.specs.Values.{strip, births_in};
 ghost use Rattle.sf_laws.specs.Histories.{IsLegalAlone, replies_of, end_of, store_of};
-ghost use Rattle.sf_laws.specs.SpaceExamples.{one_block, one_block_history, two_blocks_kept, retention_history, two_blocks_max, max_history, apart_history, one_block_apart, shared_history};
+ghost use Rattle.sf_laws.specs.SpaceExamples.{one_block, one_block_history, two_blocks_kept, retention_history, two_blocks_max, max_history, apart_history, one_block_apart, shared_history, two_writers, both_promised, one_promised};
 
 /// A store of one block has no room for a second content, and finds the first one again.
 pub fn store_of_one_block()
@@ -70,5 +72,26 @@ pub fn objects_that_share()
       ≡ codes "abc" ∷ codes "abc" ∷ [] }
     ensures reached { reach (end_of one_block_apart shared_history) ≡ 1 ∷ [] }
     ensures free { free_of (end_of one_block_apart shared_history) ≡ 0 }
+{
+}
+
+/// Two equal contents that are promised beside each other become one at the second publication.
+pub fn equal_contents_of_two_sessions()
+    ensures legal { IsLegalRun (opening (store_of 2) 2) both_promised }
+    ensures first { run_replies (store_of 2) 2 both_promised 1 ≡ reply.Done ∷ reply.Done ∷ reply.Done ∷ reply.Committed 1 ∷ reply.Ended ∷ [] }
+    ensures second { run_replies (store_of 2) 2 both_promised 2 ≡ reply.Done ∷ reply.Done ∷ reply.Done ∷ reply.Committed 2 ∷ reply.Ended ∷ [] }
+    ensures promised { free_of (run_table (store_of 2) 2 two_writers) ≡ 0 }
+    ensures reached { reach (run_table (store_of 2) 2 both_promised) ≡ 1 ∷ [] }
+    ensures free { free_of (run_table (store_of 2) 2 both_promised) ≡ 1 }
+{
+}
+
+/// A standing promise takes its blocks, though its content isn't given out yet and can't be found.
+pub fn equal_contents_in_one_block()
+    ensures legal { IsLegalRun (opening (store_of 1) 2) one_promised }
+    ensures first { run_replies (store_of 1) 2 one_promised 1 ≡ reply.Done ∷ reply.Done ∷ reply.Done ∷ reply.Committed 1 ∷ reply.Ended ∷ [] }
+    ensures second { run_replies (store_of 1) 2 one_promised 2 ≡ reply.Done ∷ reply.Done ∷ reply.Done ∷ reply.Refused (fault.NoSpace 1 0) ∷ reply.Ended ∷ [] }
+    ensures rows { map (λ e. e.0) (present_rows (run_table (store_of 1) 2 one_promised)) ≡ codes "a" ∷ [] }
+    ensures free { free_of (run_table (store_of 1) 2 one_promised) ≡ 0 }
 {
 }
