@@ -16,6 +16,7 @@ pub mod Promises
 pub mod Publications
 pub mod Reach
 pub mod Refusals
+pub mod Rooms
 pub mod RowCalls
 pub mod Rows
 pub mod Savepoints

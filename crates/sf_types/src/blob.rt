@@ -5,6 +5,7 @@ ghost use Rattle.std.specs.Cmp.{partial_equiv_from_equiv};
 ghost use Rattle.std.specs.Cmp.Lexicographic.{pointwise, slice_cmp, nat_list_cmp_total, nat_list_eq_equiv, texts_po, texts_ties};
 
 use crate::copy::{Exact, TryCopy};
+use crate::list::List;
 use crate::memory::Mem;
 use std::alloc::{AllocError, Global};
 use std::cmp::Ordering;
@@ -16,6 +17,9 @@ use std::sync::ArcSlice;
 pub struct Blob {
     bytes: ArcSlice<u8>,
 }
+
+/// Blobs, in order.
+pub type BlobList = List<Blob>;
 
 impl Model for Blob {
     ghost use Rattle.std.specs.Prelude.{ℕ, List};

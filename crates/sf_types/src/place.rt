@@ -7,6 +7,7 @@ use crate::copy::TryCopy;
 use crate::list::List;
 use crate::memory::Mem;
 use crate::name::Name;
+use crate::room_list::RoomList;
 use sha2::{Digest, Sha256};
 use std::alloc::Global;
 use std::marker::Model;
@@ -18,8 +19,14 @@ pub struct Run {
     pub blocks: u32,
 }
 
-/// Runs, in the order of a content's blocks.
-pub type Runs = List<Run>;
+/// Runs of blocks, with room for more.
+pub type Runs = RoomList<Run>;
+
+/// The runs of one content, in the order of its blocks.
+pub type ContentRuns = List<Run>;
+
+/// The runs of several contents, with room for more.
+pub type RunsList = RoomList<ContentRuns>;
 
 /// Births in rising order, seen as their list.
 #[derive(Debug, Drop)]
@@ -113,7 +120,7 @@ pub struct Place {
     pub birth: u128,
     pub len: u32,
     pub sum: Sum,
-    pub runs: Runs,
+    pub runs: ContentRuns,
 }
 
 /// A row that is present at the end: its length in bytes and the digest of its bytes.

@@ -1,0 +1,9 @@
+//! How a flush is cut into contents, and how many blocks they take.
+#![tactic(auto)]
+
+mod contents;
+
+pub use contents::{BLOCK_BYTES, CONTENT_BYTES, blocks, cut};
+
+#[cfg(test)]
+mod tests;
