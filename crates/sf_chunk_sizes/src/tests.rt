@@ -17,11 +17,10 @@ fn cuts_runs(rt: HostRuntime) -> Result<(), Fail> {
         let bytes = vec![in alloc; 65u8; length]?;
         let contents = cut(alloc, &bytes).ok().ok_or("memory")?;
         assert_eq!(rt; contents.len(), lengths.len(), "{length}");
-        let mut sum = 0u64;
-        for content in contents.as_slice() {
-            sum += blocks(content.len() as u64);
+        for (content, wanted) in contents.as_slice().iter().zip(lengths) {
+            assert_eq!(rt; content.len(), *wanted, "{length}");
         }
-        assert_eq!(rt; sum, total, "{length}");
+        assert_eq!(rt; blocks(length as u64), total, "{length}");
     }
     Ok(())
 }
