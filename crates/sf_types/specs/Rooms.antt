@@ -7,8 +7,10 @@ pub record Roomy (X : Type 0) : Type 0 where
   pub held : X
   pub spare : ℕ
 
--- A call that makes room for so many items. It changes nothing of what is held, and lowers no spare.
+-- A call that makes room for so many items. It is done where there is that room already, changes nothing of what is
+-- held, and lowers no spare.
 pub record MakesRoom {X R E : Type 0} (before after : Roomy X) (items : ℕ) (result : Result R E) : Type 0 where
+  pub done : items ≤ before.spare → IsOk result
   pub held : after.held ≡ before.held
   pub room : OnOk result (items ≤ after.spare)
   pub kept : before.spare ≤ after.spare

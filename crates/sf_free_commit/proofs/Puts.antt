@@ -1,0 +1,60 @@
+-- Runs that are put one after another.
+use Rattle.std.proofs.Common.{◌≡◌, ℕ, ◌+◌, ◌-◌, ◌≤◌, ◌<◌, ◌^◌, List, [], ◌∷◌, ◌++◌, length, take, drop, get_or, sym, ap, ◌∙◌, arith}
+use Rattle.std.proofs.Math.Seq.{take-append_seam, take-append-add, drop-append_seam, drop-append-add}
+use Rattle.std.specs.Prelude.{All}
+use Rattle.std.proofs.lemmas.List.{append-nil, take_more}
+use Rattle.std.proofs.lemmas.List.Concat.{get_or-flat_map}
+use Rattle.std.proofs.lemmas.List.Folds.{length-flat_map-take}
+use Rattle.std.proofs.lemmas.List.FromFn.{length-range_with_len, get_or-range_with_len}
+use Rattle.std.proofs.lemmas.Grind.{flat_map-append}
+use Rattle.sf_types.specs.declared.place.Run.{Run}
+use Rattle.sf_types.specs.Placings.{blocks_in, blocks_in_run}
+
+abbrev pub no_run : Run
+no_run = record { first = 0; blocks = 0 }
+
+-- the blocks of some runs and one more
+pub push-blocks : (runs more : List Run) (run : Run) → more ≡ runs ++ run ∷ [] → blocks_in more ≡ blocks_in runs ++ blocks_in_run run
+push-blocks runs more run is =
+    ap blocks_in is
+    ∙ flat_map-append blocks_in_run runs (run ∷ [])
+    ∙ ap (λ (xs : List ℕ). blocks_in runs ++ xs) (append-nil (blocks_in_run run))
+
+-- the blocks of one run more
+pub next-blocks : (runs : List Run) (k : ℕ) → k < length runs → blocks_in (take (k + 1) runs) ≡ blocks_in (take k runs) ++ blocks_in_run (get_or runs k no_run)
+next-blocks runs k less =
+    push-blocks (take k runs) (take (k + 1) runs) (get_or runs k no_run) (take_more runs k no_run less)
+
+-- they are no more than all blocks
+pub next-count : (runs : List Run) (k : ℕ) → k < length runs → length (blocks_in (take k runs)) + (get_or runs k no_run).blocks ≤ length (blocks_in runs)
+next-count runs k less =
+    let run = get_or runs k no_run in
+    omega (arith, length-flat_map-take blocks_in_run runs k no_run less, length-range_with_len run.first run.blocks)
+
+-- the last block of a run is below the end
+pub run-below : (runs : List Run) (k : ℕ) → k < length runs → All (λ block. block < 2 ^ 32) (blocks_in runs) → 1 ≤ (get_or runs k no_run).blocks → (get_or runs k no_run).first + (get_or runs k no_run).blocks ≤ 2 ^ 32
+run-below runs k less all some =
+    let run = get_or runs k no_run in
+    let before = length (blocks_in (take k runs)) in
+    let last = run.blocks - 1 in
+    let size = length-range_with_len run.first run.blocks in
+    let within : last < length (blocks_in_run run) = omega (arith, some, size) in
+    let at : get_or (blocks_in runs) (before + last) 0 ≡ get_or (blocks_in_run run) last 0 = get_or-flat_map blocks_in_run runs k last no_run 0 less within in
+    let is : get_or (blocks_in_run run) last 0 ≡ run.first + last = get_or-range_with_len run.first run.blocks last 0 (omega (arith, some)) in
+    let below : get_or (blocks_in runs) (before + last) 0 < 2 ^ 32 = all (before + last) 0 (omega (arith, some, next-count runs k less)) in
+    omega (arith, some, at, is, below)
+
+-- what was taken and what is left are the two parts of what there was
+pub taken-and-left : (held queue more left : List ℕ) (n : ℕ) → more ++ left ≡ held ++ queue → length more ≡ length held + n → (more ≡ held ++ take n queue) × (left ≡ drop n queue)
+taken-and-left held queue more left n same size =
+    (sym (take-append_seam more left) ∙ ap (take (length more)) same ∙ ap (λ k. take k (held ++ queue)) size ∙ take-append-add held queue n,
+    sym (drop-append_seam more left) ∙ ap (drop (length more)) same ∙ ap (λ k. drop k (held ++ queue)) size ∙ drop-append-add held queue n)
+
+-- the blocks of one run alone
+pub one-run : (runs more : List Run) (run : Run) → runs ≡ [] → more ≡ runs ++ run ∷ [] → blocks_in more ≡ blocks_in_run run
+one-run runs more run none is = push-blocks runs more run is ∙ ap (λ (xs : List Run). blocks_in xs ++ blocks_in_run run) none
+
+pub range-below : (run : Run) → run.first + run.blocks ≤ 2 ^ 32 → All (λ block. block < 2 ^ 32) (blocks_in_run run)
+range-below run le k d less =
+    let within : k < run.blocks = omega (arith, less, length-range_with_len run.first run.blocks) in
+    omega (arith, le, within, get_or-range_with_len run.first run.blocks k d within)

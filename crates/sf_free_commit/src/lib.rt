@@ -1,0 +1,10 @@
+//! Blocks that wait to be released, first in and first out.
+#![tactic(auto)]
+
+mod committed;
+mod queue;
+
+pub use committed::Committed;
+
+#[cfg(test)]
+mod tests;
