@@ -1,0 +1,13 @@
+mod Changes
+mod Each
+mod EachEntry
+mod EntryCases
+mod GivenBirths
+mod Held
+mod HeldEdits
+mod HeldSteps
+mod PublishCases
+mod Reached
+mod Settling
+mod StepCases
+mod TrueSteps

@@ -3,3 +3,4 @@
 
 mod fragment_moves;
 mod store_of_one_block;
+mod true_marks;
