@@ -146,7 +146,7 @@ reached_front P contents reached cut all =
       | false ↦ λ h. each_left P reached ((length contents + 1) ∷ []) h
     ] all
 
-given_with : (contents : List Content) (reached : List ℕ) (cut : Cut) → Each (IsGivenOut contents) reached → Each (IsGivenOut (contents_with contents reached cut)) (reached_with contents reached cut)
+pub given_with : (contents : List Content) (reached : List ℕ) (cut : Cut) → Each (IsGivenOut contents) reached → Each (IsGivenOut (contents_with contents reached cut)) (reached_with contents reached cut)
 given_with contents reached cut given =
     elim (is_found contents reached cut) as (λ b. Each (IsGivenOut (cond b contents (contents ++ content_of_cut cut ∷ []))) (cond b reached (reached ++ (length contents + 1) ∷ []))) [
       | true ↦ given

@@ -1,4 +1,5 @@
 mod Changes
+mod DistinctSteps
 mod Each
 mod EachEntry
 mod EntryCases
@@ -8,6 +9,7 @@ mod HeldEdits
 mod HeldSteps
 mod PublishCases
 mod Reached
+mod ReachSteps
 mod Settling
 mod StepCases
 mod TrueSteps

@@ -2,5 +2,6 @@
 #![tactic(auto)]
 
 mod fragment_moves;
+mod shared_contents;
 mod store_of_one_block;
 mod true_marks;
