@@ -1,5 +1,5 @@
 -- Shared contents stay distinct.
-use Rattle.std.proofs.Common.{◌≡◌, ℕ, ◌+◌, ◌-◌, Bool, true, false, cond, IsTrue as IsSo, List, [], ◌∷◌, ◌++◌, length, Option, Some, None, refl, sym, ap, subst, ◌∙◌, arith, ⊎_elim}
+use Rattle.std.proofs.Common.{◌≡◌, ℕ, ◌+◌, ◌-◌, true, false, cond, IsTrue as IsSo, List, [], ◌∷◌, ◌++◌, length, Option, Some, None, refl, sym, ap, subst, ◌∙◌, arith, ⊎_elim}
 use Rattle.std.specs.Prelude.{find, is_some, slice_get, Contains}
 use Rattle.std.specs.List.{AllByRecursion as Each}
 use Rattle.std.proofs.lemmas.Slice.Eq.{bytes_eq-Decides}
@@ -17,7 +17,7 @@ use Rattle.sf_types.specs.Step.{step}
 use Rattle.sf_types.specs.Orders.{IsLegal, IsLegalRun, apply, table_after}
 use Rattle.sf_laws.specs.TrueMarks.{IsGivenOut, HasTrueMarks}
 use Rattle.sf_laws.specs.SharedContents.{IsSharedWith, AreDistinct, HasDistinctContents}
-use Rattle.sf_laws.proofs.Each.{each_contained, each_itself}
+use Rattle.sf_laws.proofs.Each.{each_contained, each_itself, none_found}
 use Rattle.sf_laws.proofs.GivenBirths.{reached_after, content_kept, get_last, given_with}
 use Rattle.sf_laws.proofs.ReachSteps.{reach_stepped, reach_published, reach_at_floor, reach_granted, reach_cancelled}
 use Rattle.sf_laws.proofs.Changes.{step_changed, publish_changed}
@@ -28,14 +28,6 @@ use Rattle.sf_laws.proofs.TrueSteps.{are_true, reach_given, true_after, true_ope
 distinct_among : (contents : List Content) (more fewer : List ℕ) → AreDistinct contents more → Each (Contains more) fewer → AreDistinct contents fewer
 distinct_among contents more fewer distinct within bytes b c in_b in_c of_b of_c =
     distinct bytes b c (each_contained (Contains more) fewer b within in_b) (each_contained (Contains more) fewer c within in_c) of_b of_c
-
-pub none_found : {X : Type 0} (test : X → Bool) (xs : List X) → find test xs ≡ None → Each (λ x. test x ≡ false) xs
-none_found test [] is = tt
-none_found test (x ∷ xs) is =
-    elim (test x) as (λ b. test x ≡ b → cond b (Some x) (find test xs) ≡ None → Each (λ y. test y ≡ false) (x ∷ xs)) [
-      | true ↦ λ t h. absurd cc
-      | false ↦ λ t h. (t, none_found test xs h)
-    ] refl is
 
 passes_shared : (contents : List Content) (bytes : List ℕ) (b : ℕ) → IsSharedWith contents bytes b → is_shared_as contents bytes b ≡ true
 passes_shared contents bytes b is = rw is ((bytes_eq-Decides bytes bytes).1 refl)

@@ -106,6 +106,15 @@ pub each_found : {X : Type 0} (P : X → Type 0) (test : X → Bool) (xs : List 
 each_found P test [] y same all = absurd cc
 each_found P test (x ∷ xs) y same all = found_at P test (test x) x y (find test xs) refl all.0 (λ h. each_found P test xs y h all.1) same
 
+-- where a search finds nothing
+pub none_found : {X : Type 0} (test : X → Bool) (xs : List X) → find test xs ≡ None → Each (λ x. test x ≡ false) xs
+none_found test [] is = tt
+none_found test (x ∷ xs) is =
+    elim (test x) as (λ b. test x ≡ b → cond b (Some x) (find test xs) ≡ None → Each (λ y. test y ≡ false) (x ∷ xs)) [
+      | true ↦ λ t h. absurd cc
+      | false ↦ λ t h. (t, none_found test xs h)
+    ] refl is
+
 -- elements of a list
 pub each_contained : {X : Type 0} (P : X → Type 0) (xs : List X) (x : X) → Each P xs → Contains xs x → P x
 each_contained P xs x all has = All-contains P xs x (All-from_recursion P xs all) has

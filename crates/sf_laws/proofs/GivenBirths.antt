@@ -146,13 +146,18 @@ reached_front P contents reached cut all =
       | false ↦ λ h. each_left P reached ((length contents + 1) ∷ []) h
     ] all
 
+-- each birth given out stays so, and one more is
+pub given_more : (contents : List Content) (reached : List ℕ) (cut : Cut) → Each (IsGivenOut contents) reached → Each (IsGivenOut (contents ++ content_of_cut cut ∷ [])) (reached ++ (length contents + 1) ∷ [])
+given_more contents reached cut given =
+    each-append (IsGivenOut (contents ++ content_of_cut cut ∷ [])) reached ((length contents + 1) ∷ [])
+    (each_weaker (IsGivenOut contents) (IsGivenOut (contents ++ content_of_cut cut ∷ [])) reached (λ b is. given_kept contents (contents ++ content_of_cut cut ∷ []) b (record { more = content_of_cut cut ∷ []; parts = refl }) is) given)
+    (record { low = omega arith; high = rw length-append (omega arith) }, tt)
+
 pub given_with : (contents : List Content) (reached : List ℕ) (cut : Cut) → Each (IsGivenOut contents) reached → Each (IsGivenOut (contents_with contents reached cut)) (reached_with contents reached cut)
 given_with contents reached cut given =
     elim (is_found contents reached cut) as (λ b. Each (IsGivenOut (cond b contents (contents ++ content_of_cut cut ∷ []))) (cond b reached (reached ++ (length contents + 1) ∷ []))) [
       | true ↦ given
-      | false ↦ each-append (IsGivenOut (contents ++ content_of_cut cut ∷ [])) reached ((length contents + 1) ∷ [])
-          (each_weaker (IsGivenOut contents) (IsGivenOut (contents ++ content_of_cut cut ∷ [])) reached (λ b is. given_kept contents (contents ++ content_of_cut cut ∷ []) b (record { more = content_of_cut cut ∷ []; parts = refl }) is) given)
-          (record { low = omega arith; high = rw length-append (omega arith) }, tt)
+      | false ↦ given_more contents reached cut given
     ]
 
 pub reached_kept : (P : ℕ → Type 0) (contents : List Content) (reached : List ℕ) (of : List Cut) → Each P (reached_after contents reached of) → Each P reached

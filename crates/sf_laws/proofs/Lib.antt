@@ -7,9 +7,15 @@ mod GivenBirths
 mod Held
 mod HeldEdits
 mod HeldSteps
+mod LockSteps
+mod Locks
 mod PublishCases
-mod Reached
 mod ReachSteps
+mod Reached
 mod Settling
+mod StandingPromises
 mod StepCases
+mod Sums
 mod TrueSteps
+mod UseSteps
+mod Wanted

@@ -1,3 +1,4 @@
 pub mod Histories
 pub mod SharedContents
 pub mod TrueMarks
+pub mod UseWithinCapacity

@@ -5,3 +5,4 @@ mod fragment_moves;
 mod shared_contents;
 mod store_of_one_block;
 mod true_marks;
+mod use_of_blocks;
