@@ -18,11 +18,12 @@ use Rattle.sf_types.specs.Orders.{IsLegal, IsLegalRun, apply, table_after}
 use Rattle.sf_laws.specs.TrueMarks.{IsGivenOut, HasTrueMarks}
 use Rattle.sf_laws.specs.SharedContents.{IsSharedWith, AreDistinct, HasDistinctContents}
 use Rattle.sf_laws.proofs.Each.{each_contained, each_itself, none_found}
-use Rattle.sf_laws.proofs.GivenBirths.{reached_after, content_kept, get_last, given_with}
+use Rattle.sf_laws.proofs.GivenBirths.{reached_after, content_kept, given_with}
 use Rattle.sf_laws.proofs.ReachSteps.{reach_stepped, reach_published, reach_at_floor, reach_granted, reach_cancelled}
 use Rattle.sf_laws.proofs.Changes.{step_changed, publish_changed}
 use Rattle.sf_laws.proofs.EntryCases.{EntryCases, by_entry_cases}
 use Rattle.sf_laws.proofs.TrueSteps.{are_true, reach_given, true_after, true_opening}
+use Rattle.sf_laws.proofs.Places.{get_last}
 
 -- fewer births are distinct
 distinct_among : (contents : List Content) (more fewer : List ℕ) → AreDistinct contents more → Each (Contains more) fewer → AreDistinct contents fewer

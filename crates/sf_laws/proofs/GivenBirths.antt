@@ -1,5 +1,5 @@
 -- The births that a publication gives to its cuts.
-use Rattle.std.proofs.Common.{◌≡◌, ℕ, zero, suc, ◌+◌, ◌-◌, ◌<◌, Bool, true, false, ◌&&◌, cond, List, [], ◌∷◌, ◌++◌, length, drop, Option, Some, None, refl, sym, ap, ◌∙◌, append_assoc, arith, length-append}
+use Rattle.std.proofs.Common.{◌≡◌, ℕ, ◌+◌, ◌-◌, Bool, true, false, ◌&&◌, cond, List, [], ◌∷◌, ◌++◌, length, drop, Option, Some, None, refl, sym, ap, ◌∙◌, append_assoc, arith, length-append}
 use Rattle.std.proofs.lemmas.List.{append-nil}
 use Rattle.std.proofs.lemmas.List.Elements.{Contains-push}
 use Rattle.std.specs.Prelude.{find, unwrap_or, is_some, slice_get, bytes_eq, Contains}
@@ -14,30 +14,13 @@ use Rattle.sf_types.specs.Publications.{content_of_cut, birth_for, contents_with
 use Rattle.sf_laws.specs.TrueMarks.{IsGivenOut, bytes_of, IsTrue}
 use Rattle.sf_laws.proofs.Each.{each_weaker, each-append, each_left, each_found, each_itself, each_contained}
 use Rattle.sf_laws.proofs.Settling.{Paired}
+use Rattle.sf_laws.proofs.Places.{get-append, get_last, at_drop}
+use Rattle.sf_laws.proofs.Tests.{and_first, and_second}
 
 -- All births among which a further cut would be looked for.
 abbrev pub reached_after : List Content → List ℕ → List Cut → List ℕ
 reached_after contents reached [] = reached
 reached_after contents reached (cut ∷ rest) = reached_after (contents_with contents reached cut) (reached_with contents reached cut) rest
-
-pub get-append : {X : Type 0} (xs ys : List X) (i : ℕ) → i < length xs → slice_get (xs ++ ys) i ≡ slice_get xs i
-get-append [] ys i lt = absurd (omega arith)
-get-append (x ∷ xs) ys zero lt = refl
-get-append (x ∷ xs) ys (suc i) lt = get-append xs ys i (omega arith)
-
-pub get_last : {X : Type 0} (xs : List X) (y : X) → slice_get (xs ++ y ∷ []) (length xs) ≡ Some y
-get_last [] y = refl
-get_last (x ∷ xs) y = get_last xs y
-
--- the first item that is left, and the rest
-at_drop : {X : Type 0} (xs : List X) (i : ℕ) (y : X) (ys : List X) → drop i xs ≡ y ∷ ys → (slice_get xs i ≡ Some y) × (drop (i + 1) xs ≡ ys)
-at_drop [] zero y ys is = absurd cc
-at_drop [] (suc i) y ys is = absurd cc
-at_drop (x ∷ xs) zero y ys is = (cc, cc)
-at_drop (x ∷ xs) (suc i) y ys is =
-    let rest = at_drop xs i y ys is in
-    let next : suc i + 1 ≡ suc (i + 1) = omega arith in
-    (rest.0, ap (λ n. drop n (x ∷ xs)) next ∙ rest.1)
 
 -- contents go on at their end alone
 pub record GoesOn (before after : List Content) : Type 0 where
@@ -84,14 +67,6 @@ pub record IsFoundAt (contents : List Content) (reached : List ℕ) (cut : Cut) 
   pub at : content_of contents b ≡ Some content
   pub shared : content.is_shared ≡ true
   pub bytes : content.bytes ≡ cut.bytes
-
-and_first : (a b : Bool) → (a && b) ≡ true → a ≡ true
-and_first true b h = refl
-and_first false b h = h
-
-and_second : (a b : Bool) → (a && b) ≡ true → b ≡ true
-and_second true b h = h
-and_second false b h = absurd cc
 
 shared_at : (contents : List Content) (reached : List ℕ) (cut : Cut) (b : ℕ) (o : Option Content) → cut.is_sharing ≡ true → Contains reached b → content_of contents b ≡ o
     → option_map_or (λ x. x.is_shared && bytes_eq x.bytes cut.bytes) o false ≡ true → IsFoundAt contents reached cut b

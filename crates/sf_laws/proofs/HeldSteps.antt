@@ -91,10 +91,6 @@ floor_rises options floor n =
       | false ↦ omega arith
     ]
 
--- The bytes held where the floor may have risen.
-abbrev After : (Marked → Type 0) → ℕ → Table → Table → Type 0
-After M floor t u = Held M floor u
-
 held_cases : (M : Marked → Type 0) → OfUnstored M → (floor : ℕ) (t : Table) (s : ℕ) → floor ≤ t.floor → Held M floor t → StepCases t s (Held M floor)
 held_cases M un floor t s le held =
     let p = session_of t s in

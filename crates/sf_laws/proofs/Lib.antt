@@ -9,6 +9,7 @@ mod HeldEdits
 mod HeldSteps
 mod LockSteps
 mod Locks
+mod Places
 mod PublishCases
 mod ReachSteps
 mod Reached
@@ -16,6 +17,7 @@ mod Settling
 mod StandingPromises
 mod StepCases
 mod Sums
+mod Tests
 mod TrueSteps
 mod UseSteps
 mod Wanted

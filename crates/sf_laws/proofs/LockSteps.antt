@@ -1,6 +1,6 @@
 -- What a session works on stays locked by it, and no other session changes a row that it has locked.
-use Rattle.std.proofs.Common.{◌≡◌, ℕ, ◌-◌, Bool, true, false, ◌&&◌, not, cond, IsTrue, List, [], ◌∷◌, ◌++◌, Option, Some, None, refl, sym, ap, subst, ◌∙◌}
-use Rattle.std.specs.Prelude.{filter, find, is_none, nat_le, slice_set}
+use Rattle.std.proofs.Common.{◌≡◌, ℕ, ◌-◌, Bool, true, false, not, cond, IsTrue, List, [], ◌∷◌, ◌++◌, Option, Some, None, refl, sym, ap, subst, ◌∙◌}
+use Rattle.std.specs.Prelude.{filter, find, nat_le, slice_set}
 use Rattle.std.specs.List.{AllByRecursion as Each, list_any}
 use Rattle.std.specs.Option.{option_map_or}
 use Rattle.sf_types.specs.declared.call.Call.{Call}
@@ -24,6 +24,7 @@ use Rattle.sf_laws.proofs.HeldSteps.{each-up_to}
 use Rattle.sf_laws.proofs.Locks.{one_holder, takes_lock, stays_with_lock, stays_released, stays_released_since, stays_named, among_locked}
 use Rattle.sf_laws.proofs.StepCases.{StepCases, by_cases, same_part, held_where_written}
 use Rattle.sf_laws.proofs.PublishCases.{PublishCases, by_publish_cases}
+use Rattle.sf_laws.proofs.Tests.{and_first, none_from}
 
 -- After an entry of session s its own part is locked, and of what the other sessions have locked nothing has changed.
 pub record IsLockedStep (t : Table) (s : ℕ) (u : Table) : Type 0 where
@@ -191,14 +192,6 @@ due_where t s p c at is = go (written_at c) is
     go : (o : Option (List ℕ)) → o ≡ Some at → option_map_or (λ name. is_write_due t s p name c) o false ≡ is_write_due t s p at c
     go None h = absurd cc
     go (Some name) h = let same : name ≡ at = cc in ap (λ n. is_write_due t s p n c) same
-
-and_first : (a b : Bool) → (a && b) ≡ true → a ≡ true
-and_first true b h = refl
-and_first false b h = h
-
-none_from : {X : Type 0} (o : Option X) → is_none o ≡ true → o ≡ None
-none_from None is = refl
-none_from (Some x) is = absurd cc
 
 pub due_held : (t : Table) (s : ℕ) (p : Session) (c : Call) (at : List ℕ) → written_at c ≡ Some at → due_of t s p c ≡ true → holds t.locks s (written_row p at) ≡ true
 due_held t s p c at is due =

@@ -5,27 +5,11 @@ use Rattle.std.specs.List.{list_any}
 use Rattle.std.specs.Option.{option_map_or}
 use Rattle.std.specs.Cmp.Lexicographic.{nat_list_cmp_total}
 use Rattle.std.proofs.lemmas.Cmp.{tied_itself}
-use Rattle.std.proofs.lemmas.Bool.Decides.{Decides-eqb}
 use Rattle.sf_types.specs.NameMaps.{NameMap, is_name_of, get, put}
 use Rattle.sf_types.proofs.NameMapLemmas.{same_name, get-put}
 use Rattle.sf_types.specs.Sessions.{holds, is_busy, with_lock, released, locked_rows}
 use Rattle.sf_types.specs.Savepoints.{released_since}
-
-pub same_number : (a b : ℕ) → (a == b) ≡ true → a ≡ b
-same_number a b is = (Decides-eqb a b).0 is
-
-pub not_same : (a b : ℕ) → (a == b) ≡ false → a ≡ b → ⊥
-not_same a b is same = let equal : (a == b) ≡ true = (Decides-eqb a b).1 same in cc
-
-pub own_number : (a : ℕ) → (a == a) ≡ true
-own_number a = (Decides-eqb a a).1 refl
-
-pub other_number : (a b : ℕ) → (a ≡ b → ⊥) → (a == b) ≡ false
-other_number a b apart = go (a == b) refl
-  where
-    go : (x : Bool) → (a == b) ≡ x → (a == b) ≡ false
-    go true is = absurd (apart (same_number a b is))
-    go false is = is
+use Rattle.sf_laws.proofs.Tests.{same_number, own_number, not_same, other_number}
 
 pub own_name : (name : List ℕ) → is_name_of name name ≡ true
 own_name name = rw (tied_itself nat_list_cmp_total name) refl
@@ -74,7 +58,7 @@ stays_with_lock locks r s row other free held =
         let at : get locks row ≡ Some r = subst (λ n. get locks n ≡ Some r) same (holder_is locks r other held) in
         elim (r == s) as (λ b. (r == s) ≡ b → Some s ≡ Some r) [
           | true ↦ λ h. ap (λ n. Some n) (sym (same_number r s h))
-          | false ↦ λ h. let busy = busy_where locks r s row at (λ e. let same_numbers : (r == s) ≡ true = (Decides-eqb r s).1 e in cc) in absurd cc
+          | false ↦ λ h. let busy = busy_where locks r s row at (λ e. not_same r s h e) in absurd cc
         ] refl
 
 -- the locks that a filter keeps

@@ -1,5 +1,5 @@
 -- What holds of each birth in reach holds of the birth of each mark that the table holds and of those that promises found.
-use Rattle.std.proofs.Common.{◌≡◌, ℕ, zero, suc, ◌+◌, ◌-◌, Bool, true, false, ◌||◌, cond, List, [], ◌∷◌, ◌++◌, length, take, drop, map, Option, Some, None, refl, sym, ap, subst, ◌∙◌, arith}
+use Rattle.std.proofs.Common.{◌≡◌, ℕ, ◌+◌, ◌-◌, Bool, true, false, ◌||◌, cond, List, [], ◌∷◌, ◌++◌, length, take, drop, map, Option, Some, None, refl, sym, ap, subst, ◌∙◌, arith}
 use Rattle.std.specs.Prelude.{flat_map, is_none, nat_lt, slice_index_or, ◌==◌}
 use Rattle.std.specs.List.{AllByRecursion as Each, filter_map, range_with_len}
 use Rattle.std.specs.Option.{option_map_or, IfSome}
@@ -13,6 +13,9 @@ use Rattle.sf_laws.specs.TrueMarks.{found_by}
 use Rattle.sf_laws.proofs.Each.{each_weaker, each-append, each_left, each_right, each-map, each_from_map, each-flat_map, each_from_flat_map, each-filter_map, each_from_filter_map}
 use Rattle.sf_laws.proofs.Held.{OfRows, OfKept, OfVersions, OfSession, Held}
 use Rattle.sf_laws.proofs.HeldEdits.{OfUnstored}
+use Rattle.sf_laws.proofs.Places.{at_drop, drop_of_take}
+use Rattle.sf_laws.proofs.Tests.{none_from}
+use Rattle.std.proofs.lemmas.Option.{get_or_from_slice_get}
 
 -- Something holds of a mark's birth, where the mark names one.
 abbrev pub OfBirth : (ℕ → Type 0) → Marked → Type 0
@@ -120,18 +123,6 @@ each_from_session_holdings P s (p ∷ ps) all =
     let rest = each_from_session_holdings P (s + 1) ps (each_right (OfHolding P) (promise_holding s p) (session_holdings (s + 1) ps) all.1) in
     ((each_from_session_births P p all.0, rest.0), (from_promise P s p.promise (each_left (OfHolding P) (promise_holding s p) (session_holdings (s + 1) ps) all.1), rest.1))
 
--- the versions that are kept
-take_of_none : (X : Type 0) (k : ℕ) → [] ≡ take {A = X} k []
-take_of_none X zero = refl
-take_of_none X (suc k) = refl
-
-drop_of_take : {X : Type 0} (n m : ℕ) (xs : List X) → drop n (take m xs) ≡ take (m - n) (drop n xs)
-drop_of_take zero m xs = let same : m ≡ m - 0 = omega arith in ap (λ k. take k xs) same
-drop_of_take {X} (suc n) zero [] = take_of_none X (0 - suc n)
-drop_of_take {X} (suc n) (suc m) [] = take_of_none X (suc m - suc n)
-drop_of_take (suc n) zero (x ∷ xs) = let past : 0 ≡ 0 - suc n = omega arith in ap (λ k. take k (drop n xs)) past
-drop_of_take (suc n) (suc m) (x ∷ xs) = let less : m - n ≡ suc m - suc n = omega arith in drop_of_take n m xs ∙ ap (λ k. take k (drop n xs)) less
-
 or_none : (b : Bool) (o : Option (Option Value)) → (b ≡ true → o ≡ None) → (b || is_none o) ≡ is_none o
 or_none true o is = rw (is refl) refl
 or_none false o is = refl
@@ -141,10 +132,6 @@ kept_is t n cs row at =
     let later : drop n (take t.floor t.commits) ≡ take (t.floor - n) cs = drop_of_take n t.floor t.commits ∙ ap (take (t.floor - n)) at in
     ap (λ us. nat_lt t.floor n || is_none (said us row)) later
     ∙ or_none (nat_lt t.floor n) (said (take (t.floor - n) cs) row) (λ lt. let gone : t.floor - n ≡ 0 = grind (arith, nat_tests) in ap (λ k. said (take k cs) row) gone)
-
-none_from : (o : Option (Option Value)) → is_none o ≡ true → o ≡ None
-none_from None is = refl
-none_from (Some x) is = absurd cc
 
 of_version : (P : ℕ → Type 0) (t : Table) (n : ℕ) (upto : List Rows) (e : List ℕ × Option Value) → ((row : List ℕ) → is_kept t row n ≡ is_none (said upto row)) → OfKept (OfBirth P) upto e → IfSome (version_holding t n e) (OfHolding P)
 of_version P t n upto (row, None) kept is = tt
@@ -163,37 +150,32 @@ from_version P t n upto (row, Some v) kept is none =
 abbrev versions_from : Table → ℕ → ℕ → List Holding
 versions_from t k count = flat_map (λ n. filter_map (version_holding t n) (slice_index_or t.commits (n - 1) [])) (range_with_len k count)
 
-first_at : {X : Type 0} (xs : List X) (k : ℕ) (x d : X) (rest : List X) → drop k xs ≡ x ∷ rest → (slice_index_or xs (k + 1 - 1) d ≡ x) × (drop (k + 1) xs ≡ rest)
-first_at [] zero x d rest at = absurd cc
-first_at [] (suc k) x d rest at = absurd cc
-first_at (y ∷ xs) zero x d rest at = (cc, cc)
-first_at {X} (y ∷ xs) (suc k) x d rest at =
-    let more = first_at xs k x d rest at in
-    let place : suc k + 1 - 1 ≡ suc (k + 1 - 1) = omega arith in
-    let next : suc k + 1 ≡ suc (k + 1) = omega arith in
-    (ap (λ n. slice_index_or (y ∷ xs) n d) place ∙ more.0, ap (λ n. drop n (y ∷ xs)) next ∙ more.1)
+last_off : (k : ℕ) → k + 1 - 1 ≡ k
+last_off k = omega arith
 
 each-versions : (P : ℕ → Type 0) (t : Table) (k : ℕ) (cs : List Rows) → drop k t.commits ≡ cs → OfVersions (OfBirth P) (t.floor - k) cs → Each (OfHolding P) (versions_from t (k + 1) (length cs))
 each-versions P t k [] at all = tt
 each-versions P t k (c ∷ cs) at all =
-    let here = first_at t.commits k c [] cs at in
+    let here = at_drop t.commits k c cs at in
+    let first : slice_index_or t.commits (k + 1 - 1) [] ≡ c = ap (λ n. slice_index_or t.commits n []) (last_off k) ∙ get_or_from_slice_get t.commits k c [] here.0 in
     let less : t.floor - k - 1 ≡ t.floor - (k + 1) = omega arith in
     let kept : (row : List ℕ) → is_kept t row (k + 1) ≡ is_none (said (take (t.floor - k - 1) cs) row) = λ row. kept_is t (k + 1) cs row here.1 ∙ ap (λ n. is_none (said (take n cs) row)) (sym less) in
     each-append (OfHolding P) (filter_map (version_holding t (k + 1)) (slice_index_or t.commits (k + 1 - 1) [])) (versions_from t (k + 1 + 1) (length cs))
-    (subst (λ x. Each (OfHolding P) (filter_map (version_holding t (k + 1)) x)) (sym here.0)
+    (subst (λ x. Each (OfHolding P) (filter_map (version_holding t (k + 1)) x)) (sym first)
     (each-filter_map (OfHolding P) (version_holding t (k + 1)) c (each_weaker (OfKept (OfBirth P) (take (t.floor - k - 1) cs)) (λ e. IfSome (version_holding t (k + 1) e) (OfHolding P)) c (λ e is. of_version P t (k + 1) (take (t.floor - k - 1) cs) e kept is) all.0)))
     (each-versions P t (k + 1) cs here.1 (subst (λ n. OfVersions (OfBirth P) n cs) less all.1))
 
 each_from_versions : (P : ℕ → Type 0) (t : Table) (k : ℕ) (cs : List Rows) → drop k t.commits ≡ cs → Each (OfHolding P) (versions_from t (k + 1) (length cs)) → OfVersions (OfBirth P) (t.floor - k) cs
 each_from_versions P t k [] at all = tt
 each_from_versions P t k (c ∷ cs) at all =
-    let here = first_at t.commits k c [] cs at in
+    let here = at_drop t.commits k c cs at in
+    let first : slice_index_or t.commits (k + 1 - 1) [] ≡ c = ap (λ n. slice_index_or t.commits n []) (last_off k) ∙ get_or_from_slice_get t.commits k c [] here.0 in
     let less : t.floor - k - 1 ≡ t.floor - (k + 1) = omega arith in
     let kept : (row : List ℕ) → is_kept t row (k + 1) ≡ is_none (said (take (t.floor - k - 1) cs) row) = λ row. kept_is t (k + 1) cs row here.1 ∙ ap (λ n. is_none (said (take n cs) row)) (sym less) in
     let front = each_left (OfHolding P) (filter_map (version_holding t (k + 1)) (slice_index_or t.commits (k + 1 - 1) [])) (versions_from t (k + 1 + 1) (length cs)) all in
     let back = each_right (OfHolding P) (filter_map (version_holding t (k + 1)) (slice_index_or t.commits (k + 1 - 1) [])) (versions_from t (k + 1 + 1) (length cs)) all in (
       each_weaker (λ e. IfSome (version_holding t (k + 1) e) (OfHolding P)) (OfKept (OfBirth P) (take (t.floor - k - 1) cs)) c (λ e is. from_version P t (k + 1) (take (t.floor - k - 1) cs) e kept is)
-          (each_from_filter_map (OfHolding P) (version_holding t (k + 1)) c (subst (λ x. Each (OfHolding P) (filter_map (version_holding t (k + 1)) x)) here.0 front)),
+          (each_from_filter_map (OfHolding P) (version_holding t (k + 1)) c (subst (λ x. Each (OfHolding P) (filter_map (version_holding t (k + 1)) x)) first front)),
       subst (λ n. OfVersions (OfBirth P) n cs) (sym less) (each_from_versions P t (k + 1) cs here.1 back),
     )
 

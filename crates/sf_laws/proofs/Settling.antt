@@ -4,10 +4,9 @@ use Rattle.std.proofs.lemmas.List.{length-map}
 use Rattle.std.specs.Prelude.{flat_map}
 use Rattle.std.specs.List.{AllByRecursion as Each}
 use Rattle.sf_types.specs.declared.options.Options.{Options}
-use Rattle.sf_types.specs.declared.options.Choice.{Choice}
 use Rattle.sf_types.specs.Values.{Marked, Value, fresh, is_fresh}
 use Rattle.sf_types.specs.Table.{Rows}
-use Rattle.sf_types.specs.Cuts.{Segment, Kept, Run, before, segments_of, contents_of_run, contents_of_segment, contents_of_value, Cut, is_sharing, cuts_of_value, cuts, stored, settled_contents, settled_segments, settle_value, settle}
+use Rattle.sf_types.specs.Cuts.{Segment, Kept, Run, before, segments_of, contents_of_run, contents_of_segment, contents_of_value, Cut, cuts_of_value, cuts, stored, settled_contents, settled_segments, settle_value, settle}
 use Rattle.sf_laws.proofs.Each.{each-append}
 use Rattle.sf_laws.proofs.Held.{OfRows}
 use Rattle.sf_laws.proofs.HeldEdits.{OfUnstored, of_buffer}
@@ -76,10 +75,6 @@ settled_holds M un (Run run ∷ segments) births all paired =
 
 pub settled_value : (M : Marked → Type 0) → OfUnstored M → (v : Value) (births : List ℕ) → Each M v.bytes → Paired (OfStored M) (contents_of_value v) births → Each M (settle_value v births).bytes
 settled_value M un v births all paired = settled_holds M un (segments_of v.bytes) births (of_segments M v.bytes all) paired
-
--- the cuts of one value, and those of the rows after it
-cut_of : Options → Choice → List ℕ → Cut
-cut_of options choice bytes = record { bytes = bytes; is_sharing = is_sharing options choice }
 
 count_of : (options : Options) (v : Value) → length (cuts_of_value options v) ≡ length (contents_of_value v)
 count_of options v = length-map (contents_of_value v) _

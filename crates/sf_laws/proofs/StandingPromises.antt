@@ -1,9 +1,8 @@
 -- What stands in the table of a session while others act, and of what it flushes.
-use Rattle.std.proofs.Common.{◌≡◌, ℕ, zero, suc, ◌+◌, ◌-◌, ◌≤◌, ◌<◌, Bool, true, false, ◌&&◌, IsTrue as IsSo, List, [], ◌∷◌, length, Option, Some, None, refl, sym, ap, subst, ◌∙◌, arith, length-set}
+use Rattle.std.proofs.Common.{◌≡◌, ℕ, ◌+◌, ◌-◌, ◌≤◌, Bool, true, false, ◌&&◌, IsTrue as IsSo, List, [], ◌∷◌, length, Option, Some, None, refl, sym, ap, subst, ◌∙◌, arith, length-set}
 use Rattle.std.specs.Prelude.{is_none, nat_le, slice_get, slice_set, unwrap_or, sum_by, ◌==◌}
 use Rattle.std.specs.List.{AllByRecursion as Each}
 use Rattle.std.specs.Option.{option_map_or, IfSome}
-use Rattle.std.proofs.lemmas.Bool.Decides.{nat_tests}
 use Rattle.std.proofs.lemmas.List.Sums.{sum_by-set}
 use Rattle.std.proofs.lemmas.Option.{unwrap_or-slice_get}
 use Rattle.sf_types.specs.declared.call.Call.{Call}
@@ -24,27 +23,9 @@ use Rattle.sf_laws.proofs.Each.{each_at, each_itself}
 use Rattle.sf_laws.proofs.GivenBirths.{GoesOn}
 use Rattle.sf_laws.proofs.Changes.{IsChanged}
 use Rattle.sf_laws.proofs.Wanted.{wanted_falls}
-use Rattle.sf_laws.proofs.Locks.{same_number, not_same}
 use Rattle.sf_laws.proofs.LockSteps.{IsLockedStep, has_locked_on, due_held}
-
--- one place of a list set
-get_set : {X : Type 0} (xs : List X) (i : ℕ) (y : X) → i < length xs → slice_get (slice_set xs i y) i ≡ Some y
-get_set [] i y lt = absurd (omega arith)
-get_set (x ∷ xs) zero y lt = refl
-get_set (x ∷ xs) (suc i) y lt = get_set xs i y (omega arith)
-
-get_other : {X : Type 0} (xs : List X) (i j : ℕ) (y : X) → (i ≡ j → ⊥) → slice_get (slice_set xs i y) j ≡ slice_get xs j
-get_other [] i j y apart = refl
-get_other (x ∷ xs) zero zero y apart = absurd (apart refl)
-get_other (x ∷ xs) zero (suc j) y apart = refl
-get_other (x ∷ xs) (suc i) zero y apart = refl
-get_other (x ∷ xs) (suc i) (suc j) y apart = get_other xs i j y (λ same. apart (ap (λ n. suc n) same))
-
-first_of_two : (s n : ℕ) → IsSo (nat_le 1 s && nat_le s n) → 1 ≤ s
-first_of_two s n has = grind (arith, nat_tests)
-
-place_within : (s n : ℕ) → IsSo (nat_le 1 s && nat_le s n) → s - 1 < n
-place_within s n has = grind (arith, nat_tests)
+use Rattle.sf_laws.proofs.Places.{get_set, get_set_other}
+use Rattle.sf_laws.proofs.Tests.{same_number, not_same, from_one, place_within}
 
 pub own_session : (t u : Table) (s : ℕ) (part : Session) → IsSo (has_session t s) → u.sessions ≡ slice_set t.sessions (s - 1) part → session_of u s ≡ part
 own_session t u s part has is =
@@ -53,10 +34,10 @@ own_session t u s part has is =
 
 pub other_session : (t u : Table) (s r : ℕ) (part : Session) → IsSo (has_session t s) → IsSo (has_session t r) → (r ≡ s → ⊥) → u.sessions ≡ slice_set t.sessions (s - 1) part → session_of u r ≡ session_of t r
 other_session t u s r part has_s has_r apart is =
-    let low_s = first_of_two s (length t.sessions) has_s in
-    let low_r = first_of_two r (length t.sessions) has_r in
+    let low_s = from_one s (length t.sessions) has_s in
+    let low_r = from_one r (length t.sessions) has_r in
     ap (λ (xs : List Session). unwrap_or (slice_get xs (r - 1)) new_session) is
-    ∙ ap (λ (o : Option Session). unwrap_or o new_session) (get_other t.sessions (s - 1) (r - 1) part (λ (same : s - 1 ≡ r - 1). let equal : r ≡ s = omega arith in apart equal))
+    ∙ ap (λ (o : Option Session). unwrap_or o new_session) (get_set_other t.sessions (s - 1) (r - 1) part (λ (same : s - 1 ≡ r - 1). let equal : r ≡ s = omega arith in apart equal))
 
 pub same_sessions : (t u : Table) (s r : ℕ) (part : Session) → u.sessions ≡ slice_set t.sessions (s - 1) part → IsSo (has_session u r) → IsSo (has_session t r)
 same_sessions t u s r part is has =

@@ -1,7 +1,6 @@
 -- One case analysis over the calls: what a call that flushes nothing makes of a table.
-use Rattle.std.proofs.Common.{◌≡◌, ℕ, ◌+◌, ◌-◌, ◌≤◌, ◌<◌, Bool, true, false, ◌&&◌, cond, IsTrue, List, [], ◌∷◌, ◌++◌, get_or, Option, Some, None, refl, sym, ap, subst, arith, ◌∙◌}
-use Rattle.std.specs.Prelude.{is_some, is_none, unwrap_or, nat_le, nat_lt, not, slice_set, bytes_eq}
-use Rattle.std.proofs.lemmas.Bool.Decides.{nat_tests}
+use Rattle.std.proofs.Common.{◌≡◌, ℕ, ◌+◌, ◌-◌, ◌≤◌, Bool, true, false, cond, IsTrue, List, [], ◌∷◌, ◌++◌, get_or, Option, Some, None, refl, sym, ap, subst, ◌∙◌}
+use Rattle.std.specs.Prelude.{is_some, is_none, unwrap_or, nat_lt, not, slice_set, bytes_eq}
 use Rattle.std.proofs.lemmas.Option.{unwrap_or-slice_get}
 use Rattle.std.proofs.lemmas.List.{set-get_or}
 use Rattle.sf_types.specs.declared.call.Call.{Call}
@@ -24,6 +23,7 @@ use Rattle.sf_types.specs.WritingCalls.{named_by, source_value, spans_transactio
 use Rattle.sf_types.specs.Savepoints.{savepoint_named, savepoint_refusal, saved, with_savepoint, no_savepoint, rollback_to_refusal}
 use Rattle.sf_types.specs.Ends.{with_commit, rolled_back, ended}
 use Rattle.sf_types.specs.Step.{put_into, write_step, step}
+use Rattle.sf_laws.proofs.Tests.{not_not, not_less}
 
 -- Something holds of every table that a call of session s may leave.
 pub record StepCases (t : Table) (s : ℕ) (Q : Table → Type 0) : Type 0 where
@@ -42,9 +42,6 @@ pub record StepCases (t : Table) (s : ℕ) (Q : Table → Type 0) : Type 0 where
   pub erased : let p = session_of t s in Q (with_session t s (record p { savepoints = [] }))
   pub rolled_back : Q (record (with_session t s (rolled_back (session_of t s))) { locks = released t.locks s })
   pub ended : Q (record (with_session t s (ended (session_of t s))) { locks = released t.locks s })
-
-within : (s n : ℕ) → IsTrue (nat_le 1 s && nat_le s n) → s - 1 < n
-within s n has = grind (arith, nat_tests)
 
 -- a session's own part put back
 pub same_part : (t : Table) (s : ℕ) → IsTrue (has_session t s) → with_session t s (session_of t s) ≡ t
@@ -74,10 +71,6 @@ passed_front [] us none = refl
 passed_front (t ∷ ts) us none =
     let parts = passed t.0 t.1 (ts ++ us) none in rw parts.0 (passed_front ts us parts.1)
 
-not_not : (b : Bool) → not b ≡ false → b ≡ true
-not_not true is = refl
-not_not false is = absurd cc
-
 third : (a b c d : Bool) (f g h i : Fault) → first_of ((a, f) ∷ (b, g) ∷ (c, h) ∷ (d, i) ∷ []) ≡ None → c ≡ false
 third true b c d f g h i none = absurd cc
 third false true c d f g h i none = absurd cc
@@ -91,9 +84,6 @@ held_where_written p is_held value name c none =
     not_not is_held
     (third (locator p name).is_read_only (spans_transactions p (locator p name)) (not is_held) (is_none (row_value p value (locator p name).row)) fault.ReadOnly fault.SpansTransactions fault.RowNotLocked fault.NoSuchRow
     (passed_later (locator_refusals p (named_by name c)) _ all))
-
-le_from : (m n : ℕ) → nat_lt m n ≡ false → n ≤ m
-le_from m n is = grind (arith, nat_tests)
 
 first_false : (a : Bool) (f : Fault) (ts : List (Bool × Fault)) → first_of ((a, f) ∷ ts) ≡ None → a ≡ false
 first_false a f ts none = (passed a f ts none).0
@@ -145,7 +135,7 @@ step_cases t s Q own cases (call.SelectAsOf to row n) =
     let p = session_of t s in
     let value = unwrap_or (at t row n) empty_value in
     refused_table Q (select_as_of_refusal t p to row n) t (with_session t s (selected_as_of p to row value), reply.Done) cases.refused
-    (λ none. cases.selected_as_of to row n (le_from n t.floor (third_false (lacks_room p to) (nat_lt (now t) n) (nat_lt n t.floor) fault.TooManyLocators fault.FutureCommit fault.TooOld ((is_none (at t row n), fault.NoSuchRow) ∷ []) none)))
+    (λ none. cases.selected_as_of to row n (not_less n t.floor (third_false (lacks_room p to) (nat_lt (now t) n) (nat_lt n t.floor) fault.TooManyLocators fault.FutureCommit fault.TooOld ((is_none (at t row n), fault.NoSuchRow) ∷ []) none)))
 step_cases t s Q own cases (call.Assign to from) =
     let p = session_of t s in
     refused_part (λ x. Q (with_session t s x)) (assign_refusal p to from) p (record p { locators = put p.locators to (locator p from) }, reply.Done) own (λ none. cases.assigned to from)

@@ -2,10 +2,10 @@
 use Rattle.std.proofs.Common.{◌≡◌, ℕ, ◌≤◌, ◌<◌, true, false, cond, List, [], ◌∷◌, refl, subst, arith, ◌⊎◌, inl, inr, ⊎_elim}
 use Rattle.std.specs.Prelude.{nat_lt, sum_by, Contains, ◌==◌}
 use Rattle.std.specs.List.{AllByRecursion as Each}
-use Rattle.std.proofs.lemmas.Bool.Decides.{nat_tests}
 use Rattle.std.proofs.lemmas.List.Sums.{sum_by-cons}
 use Rattle.sf_types.specs.Births.{IsBelowAll, IsRising, with_birth, rising}
 use Rattle.sf_laws.proofs.Each.{each_weaker, each_contained, each_itself}
+use Rattle.sf_laws.proofs.Tests.{less, greater}
 
 below_with : (a b : ℕ) (bs : List ℕ) → a < b → IsBelowAll a bs → IsBelowAll a (with_birth b bs)
 below_with a b [] lt below = (lt, tt)
@@ -22,20 +22,14 @@ below_more : (a b : ℕ) (bs : List ℕ) → a < b → IsBelowAll b bs → IsBel
 below_more a b [] lt below = tt
 below_more a b (c ∷ bs) lt below = (omega (arith, below.0), below_more a b bs lt below.1)
 
-lt_from : (a b : ℕ) → nat_lt a b ≡ true → a < b
-lt_from a b is = grind (arith, nat_tests)
-
-gt_from : (a b : ℕ) → nat_lt a b ≡ false → (a == b) ≡ false → b < a
-gt_from a b not_less not_same = grind (arith, nat_tests)
-
 with_birth_rises : (b : ℕ) (bs : List ℕ) → IsRising bs → IsRising (with_birth b bs)
 with_birth_rises b [] rises = (tt, tt)
 with_birth_rises b (c ∷ bs) rises =
     elim (nat_lt b c) as (λ x. nat_lt b c ≡ x → IsRising (cond x (b ∷ c ∷ bs) (cond (b == c) (c ∷ bs) (c ∷ with_birth b bs)))) [
-      | true ↦ λ less. ((lt_from b c less, below_more b c bs (lt_from b c less) rises.0), rises)
-      | false ↦ λ less. elim (b == c) as (λ x. (b == c) ≡ x → IsRising (cond x (c ∷ bs) (c ∷ with_birth b bs))) [
+      | true ↦ λ is. ((less b c is, below_more b c bs (less b c is) rises.0), rises)
+      | false ↦ λ is. elim (b == c) as (λ x. (b == c) ≡ x → IsRising (cond x (c ∷ bs) (c ∷ with_birth b bs))) [
         | true ↦ λ same. rises
-        | false ↦ λ same. (below_with c b bs (gt_from b c less same) rises.0, with_birth_rises b bs rises.1)
+        | false ↦ λ same. (below_with c b bs (greater b c is same) rises.0, with_birth_rises b bs rises.1)
       ] refl
     ] refl
 
@@ -52,10 +46,6 @@ first_or_rest b bs a has =
 each_below : (b : ℕ) (bs : List ℕ) → IsBelowAll b bs → Each (λ x. b < x) bs
 each_below b [] below = tt
 each_below b (c ∷ bs) below = (below.0, each_below b bs below.1)
-
-below_each : (b : ℕ) (bs : List ℕ) → Each (λ x. b < x) bs → IsBelowAll b bs
-below_each b [] all = tt
-below_each b (c ∷ bs) all = (all.0, below_each b bs all.1)
 
 -- what stands in a list and isn't its first stands in the rest
 in_rest : (b : ℕ) (bs xs : List ℕ) → IsBelowAll b xs → Each (Contains (b ∷ bs)) xs → Each (Contains bs) xs

@@ -1,9 +1,8 @@
 -- The use stays within the capacity.
 use Rattle.std.proofs.Common.{◌≡◌, ℕ, zero, suc, ◌+◌, ◌-◌, ◌≤◌, true, IsTrue as IsSo, List, [], ◌∷◌, replicate, Option, Some, None, refl, sym, ap, subst, ◌∙◌, arith}
-use Rattle.std.specs.Prelude.{flat_map, nat_le, slice_get, unwrap_or, sum_by, Contains}
+use Rattle.std.specs.Prelude.{flat_map, slice_get, unwrap_or, sum_by, Contains}
 use Rattle.std.specs.List.{AllByRecursion as Each}
 use Rattle.std.specs.Option.{option_map_or, IfSome}
-use Rattle.std.proofs.lemmas.Bool.Decides.{nat_tests}
 use Rattle.std.proofs.lemmas.List.Sums.{sum_by-cons}
 use Rattle.sf_types.specs.declared.call.Call.{Call}
 use Rattle.sf_types.specs.declared.history.Entry.{Entry}
@@ -31,6 +30,7 @@ use Rattle.sf_laws.proofs.Sums.{rising_rises, sum_among}
 use Rattle.sf_laws.proofs.Wanted.{wanted_falls, wanted_of_found, rises_after, published_blocks}
 use Rattle.sf_laws.proofs.LockSteps.{IsLockedStep, lock_step, lock_publish}
 use Rattle.sf_laws.proofs.StandingPromises.{own_session, sum_changed, due_unmoved, due_promised, enough_from, locks_after, promises_after}
+use Rattle.sf_laws.proofs.Tests.{at_most}
 
 -- What is kept besides the truth of marks, and the options.
 record IsKept (options : Options) (u : Table) : Type 0 where
@@ -46,9 +46,9 @@ reach_rises t = rising_rises (flat_map (λ h. h.births) (holdings t))
 blocks_among : (contents : List Content) (t u : Table) → Each (Contains (reach t)) (reach u) → blocks_of_births contents (reach u) ≤ blocks_of_births contents (reach t)
 blocks_among contents t u within = sum_among (blocks_of_birth contents) (reach u) (reach t) (reach_rises u) (reach_rises t) within
 
--- the promise of a session with nothing else changed
-abbrev put_promise : Table → ℕ → Option Promise → Table
-put_promise t s promise = with_session t s (record (session_of t s) { promise = promise })
+-- A session's promise and the floor changed, and nothing else.
+abbrev with_promise : Table → ℕ → ℕ → Option Promise → Table
+with_promise t s h promise = with_session (at_floor t h) s (record (session_of t s) { promise = promise })
 
 -- a table whose contents, births and promises are told
 use_is : (u : Table) (contents : List Content) → u.contents ≡ contents → use_of u ≡ blocks_of_births contents (reach u) + sum_by promised_blocks u.sessions
@@ -57,8 +57,8 @@ use_is u contents same = ap (λ (cs : List Content). blocks_of_births cs (reach 
 of_promise : (p : Session) (o : Option Promise) → p.promise ≡ o → promised_blocks p ≡ option_map_or (λ q. q.blocks) o 0
 of_promise p o is = ap (λ (x : Option Promise). option_map_or (λ q. q.blocks) x 0) is
 
-promise_part : (t : Table) (s : ℕ) (promise : Option Promise) → HasLocked t.locks s (session_of t s) → IsLockedStep t s (put_promise t s promise)
-promise_part t s promise own = record {
+promise_locked : (t : Table) (s h : ℕ) (promise : Option Promise) → HasLocked t.locks s (session_of t s) → IsLockedStep t s (with_promise t s h promise)
+promise_locked t s h promise own = record {
   part = record (session_of t s) { promise = promise };
   sessions = refl;
   own = record { working = own.working; saved = own.saved; named = own.named };
@@ -66,8 +66,8 @@ promise_part t s promise own = record {
   rows = λ r row apart held. refl;
 }
 
-fits_from : (m n : ℕ) → nat_le m n ≡ true → m ≤ n
-fits_from m n is = grind (arith, nat_tests)
+promise_changed : (t : Table) (s h : ℕ) (promise : Option Promise) → t.floor ≤ h → IsChanged t s promise t.contents (with_promise t s h promise)
+promise_changed t s h promise le = record { part = record (session_of t s) { promise = promise }; promised = refl; sessions = refl; options = refl; contents = refl; floor = le }
 
 kept_stepped : (t : Table) (s : ℕ) (c : Call) → IsSo (has_session t s) → IsWithinCapacity t → (session_of t s).promise ≡ None → IsKept t.options (step t s c).0
 kept_stepped t s c has inv none =
@@ -124,18 +124,11 @@ kept_granted t s c has inv none due h le fits =
     let marks = are_true t inv.true_marks in
     let q : Promise = record { call = c; blocks = wanted_at t of h; births = found_births t.contents (reach v) of } in
     let part : Session = record p { promise = Some q } in
-    let changed : IsChanged t s (Some q) t.contents u = record { part = part; promised = refl; sessions = refl; options = refl; contents = refl; floor = le } in
-    let own_locks = inv.locks s has in
-    let locked : IsLockedStep t s u = record {
-      part = part;
-      sessions = refl;
-      own = record { working = own_locks.working; saved = own_locks.saved; named = own_locks.named };
-      others = λ r row apart held. held;
-      rows = λ r row apart held. refl;
-    } in
+    let changed = promise_changed t s h (Some q) le in
+    let locked = promise_locked t s h (Some q) (inv.locks s has) in
     let fewer = blocks_among t.contents t v (reach_at_floor (Contains (reach t)) t h le (each_itself (reach t))) in
     let fewest = blocks_among t.contents v u (reach_granted (Contains (reach v)) t s c of h (each_itself (reach v))) in
-    let room : wanted_at t of h ≤ t.options.capacity - use_of v = fits_from (wanted_at t of h) (free_of v) fits in
+    let room : wanted_at t of h ≤ t.options.capacity - use_of v = at_most (wanted_at t of h) (free_of v) fits in
     let sum = sum_changed t u s (Some q) t.contents has changed in
     let before = of_promise p None none in
     let promised = due_promised t s p (Some q) c in
@@ -151,9 +144,8 @@ kept_granted t s c has inv none due h le fits =
 kept_cancelled : (t : Table) (s : ℕ) → IsSo (has_session t s) → IsWithinCapacity t → IsKept t.options (cancel t s)
 kept_cancelled t s has inv =
     let u = cancel t s in
-    let part : Session = record (session_of t s) { promise = None } in
-    let changed : IsChanged t s None t.contents u = record { part = part; promised = refl; sessions = refl; options = refl; contents = refl; floor = omega arith } in
-    let locked = promise_part t s None (inv.locks s has) in
+    let changed = promise_changed t s t.floor None (omega arith) in
+    let locked = promise_locked t s t.floor None (inv.locks s has) in
     let fewer = blocks_among t.contents t u (reach_cancelled (Contains (reach t)) t s (each_itself (reach t))) in
     let sum = sum_changed t u s None t.contents has changed in
     record {

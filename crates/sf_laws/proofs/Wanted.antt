@@ -1,5 +1,5 @@
 -- What cuts want: less where more births are reached, and at a publication no less than the new births take.
-use Rattle.std.proofs.Common.{◌≡◌, ℕ, ◌+◌, ◌-◌, ◌≤◌, Bool, true, false, ◌&&◌, ◌||◌, cond, List, [], ◌∷◌, ◌++◌, length, Option, Some, None, refl, sym, ap, subst, ◌∙◌, arith, ◌⊎◌, inl, inr, ⊎_elim}
+use Rattle.std.proofs.Common.{◌≡◌, ℕ, ◌+◌, ◌-◌, ◌≤◌, Bool, true, false, ◌&&◌, ◌||◌, cond, List, [], ◌∷◌, ◌++◌, length, Option, Some, None, refl, sym, ap, subst, ◌∙◌, arith, ⊎_elim}
 use Rattle.std.specs.Prelude.{find, filter_map, is_some, sum_by, slice_get, bytes_eq, Contains}
 use Rattle.std.specs.List.{AllByRecursion as Each, list_any}
 use Rattle.std.specs.Option.{option_map_or, IfSome}
@@ -15,8 +15,10 @@ use Rattle.sf_types.specs.Promises.{is_shared_as, found, is_found, found_births,
 use Rattle.sf_types.specs.Publications.{content_of_cut, contents_with, reached_with, contents_after}
 use Rattle.sf_laws.specs.TrueMarks.{IsGivenOut}
 use Rattle.sf_laws.proofs.Each.{each_weaker, each_of_any, each_contained, each_itself, none_found, each_from_filter_map}
-use Rattle.sf_laws.proofs.GivenBirths.{reached_after, GoesOn, content_kept, get_last, given_more, given_with, IsFoundAt, found_at}
+use Rattle.sf_laws.proofs.GivenBirths.{reached_after, GoesOn, content_kept, given_more, given_with, IsFoundAt, found_at}
 use Rattle.sf_laws.proofs.Reached.{each_from_rising}
+use Rattle.sf_laws.proofs.Tests.{either}
+use Rattle.sf_laws.proofs.Places.{get_last}
 
 -- The blocks of a cut.
 abbrev pub cut_blocks : Cut → ℕ
@@ -173,10 +175,6 @@ blocks_with contents reached cut given =
     ∙ ap (λ n. n + blocks_of_birth (more_contents contents cut) (length contents + 1)) before
     ∙ ap (λ n. blocks_of_births contents reached + n) last
 
-or_from : (a b : Bool) → (a || b) ≡ true → (a ≡ true) ⊎ (b ≡ true)
-or_from true b is = inl refl
-or_from false b is = inr is
-
 -- What is found among the first contents and births, or has an equal sharing cut among the earlier ones, is found.
 record FindsAll (c : List Content) (xs : List ℕ) (earlier : List Cut) (contents : List Content) (reached : List ℕ) : Type 0 where
   first : (cut : Cut) → is_found c xs cut ≡ true → is_found contents reached cut ≡ true
@@ -188,7 +186,7 @@ finds_same c xs earlier contents reached cut all is = record {
   again = λ other h. ⊎_elim
       (λ (same : is_equal_sharing other cut ≡ true). found_equal contents reached other cut same is)
       (λ (old : list_any (is_equal_sharing other) earlier ≡ true). all.again other old)
-      (or_from (is_equal_sharing other cut) (list_any (is_equal_sharing other) earlier) h);
+      (either (is_equal_sharing other cut) (list_any (is_equal_sharing other) earlier) h);
 }
 
 finds_more : (c : List Content) (xs : List ℕ) (earlier : List Cut) (contents : List Content) (reached : List ℕ) (cut : Cut) → Each (IsGivenOut contents) reached → FindsAll c xs earlier contents reached → FindsAll c xs (cut ∷ earlier) (more_contents contents cut) (more_reached contents reached)
@@ -201,7 +199,7 @@ finds_more c xs earlier contents reached cut given all =
       again = λ other h. ⊎_elim
           (λ (same : is_equal_sharing other cut ≡ true). found_last contents reached other cut same)
           (λ (old : list_any (is_equal_sharing other) earlier ≡ true). stays other (all.again other old))
-          (or_from (is_equal_sharing other cut) (list_any (is_equal_sharing other) earlier) h);
+          (either (is_equal_sharing other cut) (list_any (is_equal_sharing other) earlier) h);
     }
 
 -- The blocks of all births after the cuts of a publication got theirs.

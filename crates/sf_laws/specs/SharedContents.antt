@@ -9,13 +9,13 @@ use Rattle.sf_laws.specs.TrueMarks.{HasTrueMarks}
 abbrev pub IsSharedWith : List Content → List ℕ → ℕ → Type 0
 IsSharedWith contents bytes birth = content_of contents birth ≡ Some (record { bytes = bytes; is_shared = true })
 
--- Of some births two that are shared with the same bytes are one.
+-- No two of some births are shared with the same bytes.
 abbrev pub AreDistinct : List Content → List ℕ → Type 0
 AreDistinct contents births =
     (bytes : List ℕ) (b c : ℕ) → Contains births b → Contains births c
     → IsSharedWith contents bytes b → IsSharedWith contents bytes c → b ≡ c
 
--- All marks are true, and so are the births in reach told apart by their contents where they are shared.
+-- Of the births in reach no two are shared with the same bytes. (That marks are true is needed to keep it so.)
 pub record HasDistinctContents (t : Table) : Type 0 where
   pub true_marks : HasTrueMarks t
   pub distinct : AreDistinct t.contents (reach t)

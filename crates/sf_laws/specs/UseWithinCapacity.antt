@@ -18,7 +18,7 @@ AreLocked locks s rows = AllByRecursion (λ e. holds locks s e.0 ≡ true) rows
 abbrev pub AreAmong : List (List ℕ) → Rows → Type 0
 AreAmong named rows = AllByRecursion (λ e. list_any (is_name_of e.0) named ≡ true) rows
 
--- The locked rows of a savepoint are those of its own working values and of the savepoints before it, and perhaps more.
+-- A savepoint's locked rows have all rows of its own working values and of those of the savepoints before it.
 abbrev pub NameEarlier : List Savepoint → Type 0
 NameEarlier [] = Unit {0}
 NameEarlier (x ∷ xs) = AllByRecursion (λ later. AreAmong later.locked x.working) (x ∷ xs) × NameEarlier xs
