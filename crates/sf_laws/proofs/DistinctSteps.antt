@@ -1,5 +1,5 @@
 -- Shared contents stay distinct.
-use Rattle.std.proofs.Common.{◌≡◌, ℕ, ◌+◌, ◌-◌, true, false, cond, IsTrue as IsSo, List, [], ◌∷◌, ◌++◌, length, Option, Some, None, refl, sym, ap, subst, ◌∙◌, arith, ⊎_elim}
+use Rattle.std.proofs.Common.{◌≡◌, ℕ, ◌+◌, ◌-◌, true, false, cond, IsTrue, List, [], ◌∷◌, ◌++◌, length, Option, Some, None, refl, sym, ap, subst, ◌∙◌, arith, ⊎_elim}
 use Rattle.std.specs.Prelude.{find, is_some, slice_get, Contains}
 use Rattle.std.specs.List.{AllByRecursion as Each}
 use Rattle.std.proofs.lemmas.Slice.Eq.{bytes_eq-Decides}
@@ -84,7 +84,7 @@ IsDistinct t = AreDistinct t.contents (reach t)
 fewer_reached : (t u : Table) → IsDistinct t → t.contents ≡ u.contents → Each (Contains (reach t)) (reach u) → IsDistinct u
 fewer_reached t u distinct same within = subst (λ cs. AreDistinct cs (reach u)) same (distinct_among t.contents (reach t) (reach u) distinct within)
 
-distinct_cases : (t : Table) (s : ℕ) (c : Call) → IsSo (has_session t s) → HasTrueMarks t → IsDistinct t → EntryCases t s c IsDistinct
+distinct_cases : (t : Table) (s : ℕ) (c : Call) → IsTrue (has_session t s) → HasTrueMarks t → IsDistinct t → EntryCases t s c IsDistinct
 distinct_cases t s c has marks distinct =
     let within = each_itself (reach t) in
     let of = flush_cuts t s c in

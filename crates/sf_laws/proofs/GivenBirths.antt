@@ -11,7 +11,7 @@ use Rattle.sf_types.specs.Cuts.{Cut, stored_from, stored}
 use Rattle.sf_types.specs.Use.{content_of}
 use Rattle.sf_types.specs.Promises.{is_shared_as, found, is_found}
 use Rattle.sf_types.specs.Publications.{content_of_cut, birth_for, contents_with, reached_with, births_for, contents_after}
-use Rattle.sf_laws.specs.TrueMarks.{IsGivenOut, bytes_of, IsTrue}
+use Rattle.sf_laws.specs.TrueMarks.{IsGivenOut, bytes_of, HasTrueMark}
 use Rattle.sf_laws.proofs.Each.{each_weaker, each-append, each_left, each_found, each_itself, each_contained}
 use Rattle.sf_laws.proofs.Settling.{Paired}
 use Rattle.sf_laws.proofs.Places.{get-append, get_last, at_drop}
@@ -159,11 +159,11 @@ given_after contents reached [] given = given
 given_after contents reached (cut ∷ rest) given = given_after (contents_with contents reached cut) (reached_with contents reached cut) rest (given_with contents reached cut given)
 
 -- the bytes that a birth stores are true where the birth has them
-stored_true_from : (contents : List Content) (b i : ℕ) (all bytes : List ℕ) → IsGivenOut contents b → bytes_of contents b ≡ all → drop i all ≡ bytes → Each (IsTrue contents) (stored_from b i bytes)
+stored_true_from : (contents : List Content) (b i : ℕ) (all bytes : List ℕ) → IsGivenOut contents b → bytes_of contents b ≡ all → drop i all ≡ bytes → Each (HasTrueMark contents) (stored_from b i bytes)
 stored_true_from contents b i all [] given is at = tt
 stored_true_from contents b i all (x ∷ bytes) given is at =
     let parts = at_drop all i x bytes at in
     (record { given_out = given; stands = ap (λ (xs : List ℕ). slice_get xs i) is ∙ parts.0 }, stored_true_from contents b (i + 1) all bytes given is parts.1)
 
-pub stored_true : (contents : List Content) (b : ℕ) (bytes : List ℕ) → IsGivenOut contents b → bytes_of contents b ≡ bytes → Each (IsTrue contents) (stored b bytes)
+pub stored_true : (contents : List Content) (b : ℕ) (bytes : List ℕ) → IsGivenOut contents b → bytes_of contents b ≡ bytes → Each (HasTrueMark contents) (stored b bytes)
 stored_true contents b bytes given is = stored_true_from contents b 0 bytes bytes given is refl

@@ -1,5 +1,5 @@
 -- Which births an entry may leave in reach.
-use Rattle.std.proofs.Common.{ℕ, ◌+◌, ◌-◌, ◌≤◌, IsTrue as IsSo, List, [], ◌∷◌, Option, Some, None, refl, arith}
+use Rattle.std.proofs.Common.{ℕ, ◌+◌, ◌-◌, ◌≤◌, IsTrue, List, [], ◌∷◌, Option, Some, None, refl, arith}
 use Rattle.std.specs.List.{AllByRecursion as Each}
 use Rattle.std.specs.Option.{option_map_or}
 use Rattle.sf_types.specs.declared.call.Call.{Call}
@@ -34,7 +34,7 @@ reach_changed P t u s promise contents of changed found held = each-reach P u (r
   found = promises_hold (OfFound P) t u s promise contents changed found of.found;
 })
 
-pub reach_stepped : (P : ℕ → Type 0) (t : Table) (s : ℕ) (c : Call) → IsSo (has_session t s) → Each P (reach t) → Each P (reach (step t s c).0)
+pub reach_stepped : (P : ℕ → Type 0) (t : Table) (s : ℕ) (c : Call) → IsTrue (has_session t s) → Each P (reach t) → Each P (reach (step t s c).0)
 reach_stepped P t s c has all =
     let of = each_from_reach P t all in
     reach_changed P t (step t s c).0 s (session_of t s).promise t.contents of (step_changed t s c has) (found_part P t s of)

@@ -1,5 +1,5 @@
 -- What stands in the table of a session while others act, and of what it flushes.
-use Rattle.std.proofs.Common.{◌≡◌, ℕ, ◌+◌, ◌-◌, ◌≤◌, Bool, true, false, ◌&&◌, IsTrue as IsSo, List, [], ◌∷◌, length, Option, Some, None, refl, sym, ap, subst, ◌∙◌, arith, length-set}
+use Rattle.std.proofs.Common.{◌≡◌, ℕ, ◌+◌, ◌-◌, ◌≤◌, Bool, true, false, ◌&&◌, IsTrue, List, [], ◌∷◌, length, Option, Some, None, refl, sym, ap, subst, ◌∙◌, arith, length-set}
 use Rattle.std.specs.Prelude.{is_none, nat_le, slice_get, slice_set, unwrap_or, sum_by, ◌==◌}
 use Rattle.std.specs.List.{AllByRecursion as Each}
 use Rattle.std.specs.Option.{option_map_or, IfSome}
@@ -27,25 +27,25 @@ use Rattle.sf_laws.proofs.LockSteps.{IsLockedStep, has_locked_on, due_held}
 use Rattle.sf_laws.proofs.Places.{get_set, get_set_other}
 use Rattle.sf_laws.proofs.Tests.{same_number, not_same, from_one, place_within}
 
-pub own_session : (t u : Table) (s : ℕ) (part : Session) → IsSo (has_session t s) → u.sessions ≡ slice_set t.sessions (s - 1) part → session_of u s ≡ part
+pub own_session : (t u : Table) (s : ℕ) (part : Session) → IsTrue (has_session t s) → u.sessions ≡ slice_set t.sessions (s - 1) part → session_of u s ≡ part
 own_session t u s part has is =
     ap (λ (xs : List Session). unwrap_or (slice_get xs (s - 1)) new_session) is
     ∙ ap (λ (o : Option Session). unwrap_or o new_session) (get_set t.sessions (s - 1) part (place_within s (length t.sessions) has))
 
-pub other_session : (t u : Table) (s r : ℕ) (part : Session) → IsSo (has_session t s) → IsSo (has_session t r) → (r ≡ s → ⊥) → u.sessions ≡ slice_set t.sessions (s - 1) part → session_of u r ≡ session_of t r
+pub other_session : (t u : Table) (s r : ℕ) (part : Session) → IsTrue (has_session t s) → IsTrue (has_session t r) → (r ≡ s → ⊥) → u.sessions ≡ slice_set t.sessions (s - 1) part → session_of u r ≡ session_of t r
 other_session t u s r part has_s has_r apart is =
     let low_s = from_one s (length t.sessions) has_s in
     let low_r = from_one r (length t.sessions) has_r in
     ap (λ (xs : List Session). unwrap_or (slice_get xs (r - 1)) new_session) is
     ∙ ap (λ (o : Option Session). unwrap_or o new_session) (get_set_other t.sessions (s - 1) (r - 1) part (λ (same : s - 1 ≡ r - 1). let equal : r ≡ s = omega arith in apart equal))
 
-pub same_sessions : (t u : Table) (s r : ℕ) (part : Session) → u.sessions ≡ slice_set t.sessions (s - 1) part → IsSo (has_session u r) → IsSo (has_session t r)
+pub same_sessions : (t u : Table) (s r : ℕ) (part : Session) → u.sessions ≡ slice_set t.sessions (s - 1) part → IsTrue (has_session u r) → IsTrue (has_session t r)
 same_sessions t u s r part is has =
     let count : length u.sessions ≡ length t.sessions = ap (λ (xs : List Session). length xs) is ∙ length-set t.sessions (s - 1) part in
-    subst (λ n. IsSo (nat_le 1 r && nat_le r n)) count has
+    subst (λ n. IsTrue (nat_le 1 r && nat_le r n)) count has
 
 -- the blocks of all promises
-pub sum_changed : (t u : Table) (s : ℕ) (promise : Option Promise) (contents : List Content) → IsSo (has_session t s) → IsChanged t s promise contents u
+pub sum_changed : (t u : Table) (s : ℕ) (promise : Option Promise) (contents : List Content) → IsTrue (has_session t s) → IsChanged t s promise contents u
     → sum_by promised_blocks u.sessions + promised_blocks (session_of t s) ≡ sum_by promised_blocks t.sessions + option_map_or (λ q. q.blocks) promise 0
 sum_changed t u s promise contents has changed =
     let set = sum_by-set promised_blocks t.sessions (s - 1) changed.part new_session (place_within s (length t.sessions) has) in
@@ -98,7 +98,7 @@ enough_from u s q p rows options own due flush same fits = record {
 }
 
 -- the promise of another session is enough still
-pub enough_still : (t u : Table) (s r : ℕ) (part : Session) (q : Promise) → IsSo (has_session t s) → IsSo (has_session t r) → (r ≡ s → ⊥) → u.sessions ≡ slice_set t.sessions (s - 1) part → IsUnmoved t r u → GoesOn t.contents u.contents → Each (IsGivenOut t.contents) q.births → IsEnough t r q → IsEnough u r q
+pub enough_still : (t u : Table) (s r : ℕ) (part : Session) (q : Promise) → IsTrue (has_session t s) → IsTrue (has_session t r) → (r ≡ s → ⊥) → u.sessions ≡ slice_set t.sessions (s - 1) part → IsUnmoved t r u → GoesOn t.contents u.contents → Each (IsGivenOut t.contents) q.births → IsEnough t r q → IsEnough u r q
 enough_still t u s r part q has_s has_r apart sessions same on given enough =
     let kept = due_unmoved t u r (session_of t r) q.call same enough.due in
     let falls = wanted_falls t.contents u.contents q.births q.births (flush_cuts t r q.call) on given (each_itself q.births) in
@@ -108,7 +108,7 @@ pub unmoved_by : (t u : Table) (s r : ℕ) → (r ≡ s → ⊥) → u.options �
 unmoved_by t u s r apart options step = record { options = options; locks = λ row held. step.others r row apart held; rows = λ row held. step.rows r row apart held }
 
 -- what is locked in each session
-pub locks_after : (t u : Table) (s : ℕ) → IsSo (has_session t s) → IsLockedStep t s u → ((r : ℕ) → IsSo (has_session t r) → HasLocked t.locks r (session_of t r)) → (r : ℕ) → IsSo (has_session u r) → HasLocked u.locks r (session_of u r)
+pub locks_after : (t u : Table) (s : ℕ) → IsTrue (has_session t s) → IsLockedStep t s u → ((r : ℕ) → IsTrue (has_session t r) → HasLocked t.locks r (session_of t r)) → (r : ℕ) → IsTrue (has_session u r) → HasLocked u.locks r (session_of u r)
 locks_after t u s has step all r has_r = go (r == s) refl
   where
     go : (b : Bool) → (r == s) ≡ b → HasLocked u.locks r (session_of u r)
@@ -116,17 +116,17 @@ locks_after t u s has step all r has_r = go (r == s) refl
         let same : r ≡ s = same_number r s is in
         subst (λ n. HasLocked u.locks n (session_of u n)) (sym same) (subst (HasLocked u.locks s) (sym (own_session t u s step.part has step.sessions)) step.own)
     go false is =
-        let there : IsSo (has_session t r) = same_sessions t u s r step.part step.sessions has_r in
+        let there : IsTrue (has_session t r) = same_sessions t u s r step.part step.sessions has_r in
         let apart : r ≡ s → ⊥ = not_same r s is in
         subst (HasLocked u.locks r) (sym (other_session t u s r step.part has there apart step.sessions))
         (has_locked_on t.locks u.locks r (session_of t r) (λ row held. step.others r row apart held) (all r there))
 
 -- and what is enough for each promise
-pub promises_after : (t u : Table) (s : ℕ) (promise : Option Promise) (contents : List Content) → IsSo (has_session t s) → IsLockedStep t s u → IsChanged t s promise contents u → GoesOn t.contents u.contents → Each (λ p. Each (IsGivenOut t.contents) (found_by p)) t.sessions
-    → ((r : ℕ) → IsSo (has_session t r) → IfSome (session_of t r).promise (IsEnough t r)) → IfSome promise (IsEnough u s) → (r : ℕ) → IsSo (has_session u r) → IfSome (session_of u r).promise (IsEnough u r)
+pub promises_after : (t u : Table) (s : ℕ) (promise : Option Promise) (contents : List Content) → IsTrue (has_session t s) → IsLockedStep t s u → IsChanged t s promise contents u → GoesOn t.contents u.contents → Each (λ p. Each (IsGivenOut t.contents) (found_by p)) t.sessions
+    → ((r : ℕ) → IsTrue (has_session t r) → IfSome (session_of t r).promise (IsEnough t r)) → IfSome promise (IsEnough u s) → (r : ℕ) → IsTrue (has_session u r) → IfSome (session_of u r).promise (IsEnough u r)
 promises_after t u s promise contents has step changed on given all own r has_r = go (r == s) refl
   where
-    other : IsSo (has_session t r) → (r ≡ s → ⊥) → (o : Option Promise) → (session_of t r).promise ≡ o → IfSome o (IsEnough t r) → IfSome o (IsEnough u r)
+    other : IsTrue (has_session t r) → (r ≡ s → ⊥) → (o : Option Promise) → (session_of t r).promise ≡ o → IfSome o (IsEnough t r) → IfSome o (IsEnough u r)
     other there apart None is enough = tt
     other there apart (Some q) is enough =
         let found : Each (IsGivenOut t.contents) (found_by (session_of t r)) = each_at (λ p. Each (IsGivenOut t.contents) (found_by p)) t.sessions (r - 1) new_session tt given in
@@ -139,7 +139,7 @@ promises_after t u s promise contents has step changed on given all own r has_r 
         subst (λ n. IfSome (session_of u n).promise (IsEnough u n)) (sym same)
         (subst (λ (o : Option Promise). IfSome o (IsEnough u s)) (sym (ap (λ (p : Session). p.promise) (own_session t u s changed.part has changed.sessions) ∙ changed.promised)) own)
     go false is =
-        let there : IsSo (has_session t r) = same_sessions t u s r step.part step.sessions has_r in
+        let there : IsTrue (has_session t r) = same_sessions t u s r step.part step.sessions has_r in
         let apart : r ≡ s → ⊥ = not_same r s is in
         subst (λ (p : Session). IfSome p.promise (IsEnough u r)) (sym (other_session t u s r step.part has there apart step.sessions))
         (other there apart (session_of t r).promise refl (all r there))

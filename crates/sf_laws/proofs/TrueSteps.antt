@@ -1,5 +1,5 @@
 -- Marks stay true.
-use Rattle.std.proofs.Common.{ℕ, ◌-◌, IsTrue as IsSo, List, [], ◌∷◌, Option, None, refl, sym, ap, subst, ◌∙◌, arith}
+use Rattle.std.proofs.Common.{ℕ, ◌-◌, IsTrue, List, [], ◌∷◌, Option, None, refl, sym, ap, subst, ◌∙◌, arith}
 use Rattle.std.specs.Prelude.{flat_map, slice_get, All}
 use Rattle.std.specs.List.{AllByRecursion as Each}
 use Rattle.std.specs.Option.{option_map_or}
@@ -16,7 +16,7 @@ use Rattle.sf_types.specs.Promises.{flush_cuts, at_floor}
 use Rattle.sf_types.specs.Publications.{births_for, contents_after, publish}
 use Rattle.sf_types.specs.Step.{step}
 use Rattle.sf_types.specs.Orders.{IsLegal, IsLegalRun, apply, table_after}
-use Rattle.sf_laws.specs.TrueMarks.{IsGivenOut, IsTrueMark, IsTrue, all_values, found_by, HasTrueMarks}
+use Rattle.sf_laws.specs.TrueMarks.{IsGivenOut, IsTrueMark, HasTrueMark, all_values, found_by, HasTrueMarks}
 use Rattle.sf_laws.proofs.Each.{each_weaker, each-append, each_left, each_right, each-flat_map, each_from_flat_map, each-replicate, each-set, each_at}
 use Rattle.sf_laws.proofs.Held.{OfOption, OfRows, OfKept, OfVersions, OfSession, Held, held_weaker}
 use Rattle.sf_laws.proofs.HeldEdits.{OfUnstored}
@@ -39,12 +39,12 @@ all_of_versions M (c ∷ cs) all = (each_weaker (OfKept M []) (λ e. OfOption M 
 
 -- The same with what each promise found.
 pub record AreTrue (t : Table) : Type 0 where
-  pub held : Held (IsTrue t.contents) 0 t
+  pub held : Held (HasTrueMark t.contents) 0 t
   pub found : Each (λ p. Each (IsGivenOut t.contents) (found_by p)) t.sessions
 
 pub are_true : (t : Table) → HasTrueMarks t → AreTrue t
 are_true t has =
-    let M = IsTrue t.contents in
+    let M = HasTrueMark t.contents in
     let V = λ (v : Value). Each M v.bytes in
     let all : Each V (all_values t) = each_weaker (λ v. All M v.bytes) V (all_values t) (λ v is. recursion_from_All M v.bytes is) (recursion_from_All (λ v. All M v.bytes) (all_values t) has.marks) in
     record {
@@ -57,7 +57,7 @@ are_true t has =
 
 pub has_true_marks : (t : Table) → AreTrue t → HasTrueMarks t
 has_true_marks t are =
-    let M = IsTrue t.contents in
+    let M = HasTrueMark t.contents in
     let V = λ (v : Value). Each M v.bytes in
     let all : Each V (all_values t) =
     each-append V (flat_map (λ c. values_in c) t.commits) (flat_map (λ p. session_values p) t.sessions)
@@ -68,7 +68,7 @@ has_true_marks t are =
       promised = All-from_recursion (λ p. All (IsGivenOut t.contents) (found_by p)) t.sessions (each_weaker (λ p. Each (IsGivenOut t.contents) (found_by p)) (λ p. All (IsGivenOut t.contents) (found_by p)) t.sessions (λ p is. All-from_recursion (IsGivenOut t.contents) (found_by p) is) are.found);
     }
 
-pub true_unstored : (contents : List Content) → OfUnstored (IsTrue contents)
+pub true_unstored : (contents : List Content) → OfUnstored (HasTrueMark contents)
 true_unstored contents = record { of_zero = refl; of_fresh = λ b. tt }
 
 -- a birth that a true mark names was given out
@@ -80,7 +80,7 @@ given_of_mark contents byte (Stored birth index) is = is.given_out
 -- each birth in reach was given out
 pub reach_given : (t : Table) → AreTrue t → Each (IsGivenOut t.contents) (reach t)
 reach_given t are = each-reach (IsGivenOut t.contents) t (record {
-  held = held_above (OfBirth (IsGivenOut t.contents)) 0 t.floor t (omega arith) (held_weaker (IsTrue t.contents) (OfBirth (IsGivenOut t.contents)) 0 t (λ m is. given_of_mark t.contents m.byte m.mark is) are.held);
+  held = held_above (OfBirth (IsGivenOut t.contents)) 0 t.floor t (omega arith) (held_weaker (HasTrueMark t.contents) (OfBirth (IsGivenOut t.contents)) 0 t (λ m is. given_of_mark t.contents m.byte m.mark is) are.held);
   found = are.found;
 })
 
@@ -92,7 +92,7 @@ true_kept before after on byte (Stored birth index) is = record {
   stands = ap (λ (bs : List ℕ). slice_get bs index) (bytes_kept before after birth on is.given_out) ∙ is.stands;
 }
 
-paired_true : (contents : List Content) (reached : List ℕ) (of : List Cut) (births : List ℕ) → Paired (IsGivenTo contents reached) of births → Paired (OfCut (IsTrue contents)) of births
+paired_true : (contents : List Content) (reached : List ℕ) (of : List Cut) (births : List ℕ) → Paired (IsGivenTo contents reached) of births → Paired (OfCut (HasTrueMark contents)) of births
 paired_true contents reached [] births all = tt
 paired_true contents reached (cut ∷ rest) [] all = tt
 paired_true contents reached (cut ∷ rest) (b ∷ births) all = (stored_true contents b cut.bytes all.0.given_out all.0.bytes, paired_true contents reached rest births all.1)
@@ -109,38 +109,38 @@ true_published t s c are =
     let on : GoesOn t.contents after = goes_on_after t.contents reached of in
     let changed = publish_changed t s c in
     let u = (publish t s c).0 in
-    let held : Held (IsTrue after) 0 u =
-    held_publish (IsTrue after) (true_unstored after) 0 t s c
-    (held_weaker (IsTrue t.contents) (IsTrue after) 0 t (λ m is. true_kept t.contents after on m.byte m.mark is) are.held)
+    let held : Held (HasTrueMark after) 0 u =
+    held_publish (HasTrueMark after) (true_unstored after) 0 t s c
+    (held_weaker (HasTrueMark t.contents) (HasTrueMark after) 0 t (λ m is. true_kept t.contents after on m.byte m.mark is) are.held)
     (paired_true after (reached_after t.contents reached of) of (births_for t.contents reached of) (births_given t.contents reached of (reach_given t are))) in
     let found : Each (λ p. FoundGiven after p.promise) u.sessions =
     promises_hold (FoundGiven after) t u s None after changed tt
     (each_weaker (λ p. Each (IsGivenOut t.contents) (found_by p)) (λ p. Each (IsGivenOut after) (found_by p)) t.sessions (λ p is. each_weaker (IsGivenOut t.contents) (IsGivenOut after) (found_by p) (λ b h. given_kept t.contents after b on h) is) are.found) in
     record {
-      held = subst (λ cs. Held (IsTrue cs) 0 u) (sym changed.contents) held;
+      held = subst (λ cs. Held (HasTrueMark cs) 0 u) (sym changed.contents) held;
       found = subst (λ cs. Each (λ p. FoundGiven cs p.promise) u.sessions) (sym changed.contents) found;
     }
 
-true_cases : (t : Table) (s : ℕ) (c : Call) → IsSo (has_session t s) → AreTrue t → EntryCases t s c AreTrue
+true_cases : (t : Table) (s : ℕ) (c : Call) → IsTrue (has_session t s) → AreTrue t → EntryCases t s c AreTrue
 true_cases t s c has are =
     let p = session_of t s in
-    let own : OfSession (IsTrue t.contents) p = of_part (IsTrue t.contents) 0 t s are.held in
+    let own : OfSession (HasTrueMark t.contents) p = of_part (HasTrueMark t.contents) 0 t s are.held in
     let part : FoundGiven t.contents p.promise = each_at (λ x. FoundGiven t.contents x.promise) t.sessions (s - 1) new_session tt are.found in
     record {
       stepped = λ none due.
           let changed = step_changed t s c has in
           record {
-            held = subst (λ cs. Held (IsTrue cs) 0 (step t s c).0) (sym changed.contents) (held_step (IsTrue t.contents) (true_unstored t.contents) 0 t s c has (omega arith) are.held);
+            held = subst (λ cs. Held (HasTrueMark cs) 0 (step t s c).0) (sym changed.contents) (held_step (HasTrueMark t.contents) (true_unstored t.contents) 0 t s c has (omega arith) are.held);
             found = subst (λ cs. Each (λ x. FoundGiven cs x.promise) (step t s c).0.sessions) (sym changed.contents) (promises_hold (FoundGiven t.contents) t (step t s c).0 s p.promise t.contents changed part are.found);
           };
       published = λ q is call. true_published t s c are;
       refused = are;
       granted = λ none due h le fits. record {
-        held = of_table (IsTrue t.contents) 0 t _ s _ are.held refl refl (record { working = own.working; locators = own.locators; savepoints = own.savepoints });
+        held = of_table (HasTrueMark t.contents) 0 t _ s _ are.held refl refl (record { working = own.working; locators = own.locators; savepoints = own.savepoints });
         found = each-set (λ x. FoundGiven t.contents x.promise) t.sessions (s - 1) _ (each-found_births (IsGivenOut t.contents) t.contents (reach (at_floor t h)) (flush_cuts t s c) (reach_given (at_floor t h) (record { held = record { versions = are.held.versions; sessions = are.held.sessions }; found = are.found }))) are.found;
       };
       cancelled = λ q is. record {
-        held = of_table (IsTrue t.contents) 0 t _ s _ are.held refl refl (record { working = own.working; locators = own.locators; savepoints = own.savepoints });
+        held = of_table (HasTrueMark t.contents) 0 t _ s _ are.held refl refl (record { working = own.working; locators = own.locators; savepoints = own.savepoints });
         found = each-set (λ x. FoundGiven t.contents x.promise) t.sessions (s - 1) _ tt are.found;
       };
     }
@@ -152,7 +152,7 @@ true_after t e legal has =
 pub true_opening : (options : Options) (sessions : ℕ) → HasTrueMarks (opening options sessions)
 true_opening options sessions =
     has_true_marks (opening options sessions) (record {
-      held = record { versions = tt; sessions = each-replicate (OfSession (IsTrue [])) sessions new_session (record { working = tt; locators = tt; savepoints = tt }) };
+      held = record { versions = tt; sessions = each-replicate (OfSession (HasTrueMark [])) sessions new_session (record { working = tt; locators = tt; savepoints = tt }) };
       found = each-replicate (λ p. Each (IsGivenOut []) (found_by p)) sessions new_session tt;
     })
 

@@ -1,5 +1,5 @@
 -- The use stays within the capacity.
-use Rattle.std.proofs.Common.{◌≡◌, ℕ, zero, suc, ◌+◌, ◌-◌, ◌≤◌, true, IsTrue as IsSo, List, [], ◌∷◌, replicate, Option, Some, None, refl, sym, ap, subst, ◌∙◌, arith}
+use Rattle.std.proofs.Common.{◌≡◌, ℕ, zero, suc, ◌+◌, ◌-◌, ◌≤◌, true, IsTrue, List, [], ◌∷◌, replicate, Option, Some, None, refl, sym, ap, subst, ◌∙◌, arith}
 use Rattle.std.specs.Prelude.{flat_map, slice_get, unwrap_or, sum_by, Contains}
 use Rattle.std.specs.List.{AllByRecursion as Each}
 use Rattle.std.specs.Option.{option_map_or, IfSome}
@@ -36,8 +36,8 @@ use Rattle.sf_laws.proofs.Tests.{at_most}
 record IsKept (options : Options) (u : Table) : Type 0 where
   same : u.options ≡ options
   within : use_of u ≤ options.capacity
-  locks : (r : ℕ) → IsSo (has_session u r) → HasLocked u.locks r (session_of u r)
-  promises : (r : ℕ) → IsSo (has_session u r) → IfSome (session_of u r).promise (IsEnough u r)
+  locks : (r : ℕ) → IsTrue (has_session u r) → HasLocked u.locks r (session_of u r)
+  promises : (r : ℕ) → IsTrue (has_session u r) → IfSome (session_of u r).promise (IsEnough u r)
 
 reach_rises : (t : Table) → IsRising (reach t)
 reach_rises t = rising_rises (flat_map (λ h. h.births) (holdings t))
@@ -69,7 +69,7 @@ promise_locked t s h promise own = record {
 promise_changed : (t : Table) (s h : ℕ) (promise : Option Promise) → t.floor ≤ h → IsChanged t s promise t.contents (with_promise t s h promise)
 promise_changed t s h promise le = record { part = record (session_of t s) { promise = promise }; promised = refl; sessions = refl; options = refl; contents = refl; floor = le }
 
-kept_stepped : (t : Table) (s : ℕ) (c : Call) → IsSo (has_session t s) → IsWithinCapacity t → (session_of t s).promise ≡ None → IsKept t.options (step t s c).0
+kept_stepped : (t : Table) (s : ℕ) (c : Call) → IsTrue (has_session t s) → IsWithinCapacity t → (session_of t s).promise ≡ None → IsKept t.options (step t s c).0
 kept_stepped t s c has inv none =
     let u = (step t s c).0 in
     let changed = step_changed t s c has in
@@ -85,7 +85,7 @@ kept_stepped t s c has inv none =
           (subst (λ (o : Option Promise). IfSome o (IsEnough u s)) (sym none) tt);
     }
 
-kept_published : (t : Table) (s : ℕ) (c : Call) → IsSo (has_session t s) → IsWithinCapacity t → (q : Promise) → (session_of t s).promise ≡ Some q → c ≡ q.call → IsKept t.options (publish t s c).0
+kept_published : (t : Table) (s : ℕ) (c : Call) → IsTrue (has_session t s) → IsWithinCapacity t → (q : Promise) → (session_of t s).promise ≡ Some q → c ≡ q.call → IsKept t.options (publish t s c).0
 kept_published t s c has inv q is call =
     let u = (publish t s c).0 in
     let of = flush_cuts t s c in
@@ -115,7 +115,7 @@ kept_published t s c has inv q is call =
       promises = promises_after t u s None after has locked changed (subst (GoesOn t.contents) (sym changed.contents) (goes_on_after t.contents (reach t) of)) marks.found inv.promises tt;
     }
 
-kept_granted : (t : Table) (s : ℕ) (c : Call) → IsSo (has_session t s) → IsWithinCapacity t → (session_of t s).promise ≡ None → is_due t s c ≡ true → (h : ℕ) → t.floor ≤ h → fits_at t (flush_cuts t s c) h ≡ true → IsKept t.options (granted t s c (flush_cuts t s c) h)
+kept_granted : (t : Table) (s : ℕ) (c : Call) → IsTrue (has_session t s) → IsWithinCapacity t → (session_of t s).promise ≡ None → is_due t s c ≡ true → (h : ℕ) → t.floor ≤ h → fits_at t (flush_cuts t s c) h ≡ true → IsKept t.options (granted t s c (flush_cuts t s c) h)
 kept_granted t s c has inv none due h le fits =
     let p = session_of t s in
     let of = flush_cuts t s c in
@@ -141,7 +141,7 @@ kept_granted t s c has inv none due h le fits =
       promises = promises_after t u s (Some q) t.contents has locked changed (goes_on_same t.contents) marks.found inv.promises enough;
     }
 
-kept_cancelled : (t : Table) (s : ℕ) → IsSo (has_session t s) → IsWithinCapacity t → IsKept t.options (cancel t s)
+kept_cancelled : (t : Table) (s : ℕ) → IsTrue (has_session t s) → IsWithinCapacity t → IsKept t.options (cancel t s)
 kept_cancelled t s has inv =
     let u = cancel t s in
     let changed = promise_changed t s t.floor None (omega arith) in
@@ -155,7 +155,7 @@ kept_cancelled t s has inv =
       promises = promises_after t u s None t.contents has locked changed (goes_on_same t.contents) (are_true t inv.true_marks).found inv.promises tt;
     }
 
-kept_cases : (t : Table) (s : ℕ) (c : Call) → IsSo (has_session t s) → IsWithinCapacity t → EntryCases t s c (IsKept t.options)
+kept_cases : (t : Table) (s : ℕ) (c : Call) → IsTrue (has_session t s) → IsWithinCapacity t → EntryCases t s c (IsKept t.options)
 kept_cases t s c has inv = record {
   stepped = λ none due. kept_stepped t s c has inv none;
   published = λ q is call. kept_published t s c has inv q is call;

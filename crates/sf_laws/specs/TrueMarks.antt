@@ -26,8 +26,9 @@ IsTrueMark contents byte Zero = byte ≡ 0
 IsTrueMark contents byte Fresh = Unit {0}
 IsTrueMark contents byte (Stored birth index) = IsStoredAt contents birth index byte
 
-abbrev pub IsTrue : List Content → Marked → Type 0
-IsTrue contents m = IsTrueMark contents m.byte m.mark
+-- A byte whose mark is true.
+abbrev pub HasTrueMark : List Content → Marked → Type 0
+HasTrueMark contents m = IsTrueMark contents m.byte m.mark
 
 -- All values of a table: those of all commits, and of each session its working values, those of its locators and those
 -- of its savepoints.
@@ -40,5 +41,5 @@ found_by p = option_map_or (λ q. q.births) p.promise []
 
 -- All marks of a table are true, and what standing promises found was given out.
 pub record HasTrueMarks (t : Table) : Type 0 where
-  pub marks : All (λ v. All (IsTrue t.contents) v.bytes) (all_values t)
+  pub marks : All (λ v. All (HasTrueMark t.contents) v.bytes) (all_values t)
   pub promised : All (λ p. All (IsGivenOut t.contents) (found_by p)) t.sessions
