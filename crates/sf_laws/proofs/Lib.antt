@@ -1,6 +1,29 @@
-pub mod Commits
-pub mod KeptVersions
-pub mod Least
-pub mod RisingReach
-pub mod Runs
-pub mod Swaps
+mod Changes
+mod Commits
+mod DistinctSteps
+mod Each
+mod EachEntry
+mod EntryCases
+mod GivenBirths
+mod Held
+mod HeldEdits
+mod HeldSteps
+mod KeptVersions
+mod Least
+mod LockSteps
+mod Locks
+mod Places
+mod PublishCases
+mod ReachSteps
+mod Reached
+mod RisingReach
+mod Runs
+mod Settling
+mod StandingPromises
+mod StepCases
+mod Sums
+mod Swaps
+mod Tests
+mod TrueSteps
+mod UseSteps
+mod Wanted

@@ -4,6 +4,9 @@ pub mod Histories
 pub mod KeptVersions
 pub mod LocatorExamples
 pub mod Segments
+pub mod SharedContents
 pub mod SpaceExamples
 pub mod Splices
 pub mod TranscriptExamples
+pub mod TrueMarks
+pub mod UseWithinCapacity

@@ -9,5 +9,8 @@ mod locator_examples;
 mod promises;
 mod reach;
 mod refusals;
+mod shared_contents;
 mod space_examples;
 mod transcript_examples;
+mod true_marks;
+mod use_of_blocks;
