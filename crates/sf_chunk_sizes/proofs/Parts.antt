@@ -20,9 +20,10 @@ front-is n run is = choose (cases_lt 32768 (length run))
   where
     choose : (32768 < length run) ⊎ (length run ≤ 32768) → (take n run ≡ take 32768 run) × (drop n run ≡ drop 32768 run)
     choose (inl long) = let same : n ≡ 32768 = omega (arith, is, long) in (ap (λ k. take k run) same, ap (λ k. drop k run) same)
-    choose (inr short) =
-        (take_all n run (omega (arith, is, short)) ∙ sym (take_all 32768 run short),
-        drop_all n run (omega (arith, is, short)) ∙ sym (drop_all 32768 run short))
+    choose (inr short) = (
+      take_all n run (omega (arith, is, short)) ∙ sym (take_all 32768 run short),
+      drop_all n run (omega (arith, is, short)) ∙ sym (drop_all 32768 run short),
+    )
 
 -- one content more
 pub goes_on : (done more : List (List ℕ)) (run content behind : List ℕ) (n : ℕ) → 1 ≤ length run → n ≡ min (length run) 32768 → content ≡ take n run → behind ≡ drop n run → more ≡ done ++ content ∷ [] → more ++ contents_of_run behind ≡ done ++ contents_of_run run

@@ -46,9 +46,10 @@ run-below runs k less all some =
 
 -- what was taken and what is left are the two parts of what there was
 pub taken-and-left : (held queue more left : List ℕ) (n : ℕ) → more ++ left ≡ held ++ queue → length more ≡ length held + n → (more ≡ held ++ take n queue) × (left ≡ drop n queue)
-taken-and-left held queue more left n same size =
-    (sym (take-append_seam more left) ∙ ap (take (length more)) same ∙ ap (λ k. take k (held ++ queue)) size ∙ take-append-add held queue n,
-    sym (drop-append_seam more left) ∙ ap (drop (length more)) same ∙ ap (λ k. drop k (held ++ queue)) size ∙ drop-append-add held queue n)
+taken-and-left held queue more left n same size = (
+  sym (take-append_seam more left) ∙ ap (take (length more)) same ∙ ap (λ k. take k (held ++ queue)) size ∙ take-append-add held queue n,
+  sym (drop-append_seam more left) ∙ ap (drop (length more)) same ∙ ap (λ k. drop k (held ++ queue)) size ∙ drop-append-add held queue n,
+)
 
 -- the blocks of one run alone
 pub one-run : (runs more : List Run) (run : Run) → runs ≡ [] → more ≡ runs ++ run ∷ [] → blocks_in more ≡ blocks_in_run run

@@ -32,7 +32,7 @@ part-taken before after rest back run n less before-is after-is =
     let left : Run = record { first = run.first + n; blocks = run.blocks - n } in
     let parts : n + (run.blocks - n) ≡ run.blocks = omega (arith, less) in
     let whole : range_with_len run.first n ++ range_with_len (run.first + n) (run.blocks - n) ≡ range_with_len run.first run.blocks =
-        sym (range-split run.first n (run.blocks - n)) ∙ ap (range_with_len run.first) parts in
+    sym (range-split run.first n (run.blocks - n)) ∙ ap (range_with_len run.first) parts in
     rw (before-is, after-is)
     (ap (λ (xs : List ℕ). range_with_len run.first n ++ xs) (first-of rest back left)
     ∙ sym (append_assoc (range_with_len run.first n) (blocks_in_run left) (blocks_of_queue rest back))

@@ -113,18 +113,13 @@ fn make_ready(front: &mut Vec<Run>, back: &mut Vec<Run>) -> bool
 
 // Takes at most `max` blocks from the queue's front into a list of runs that has room for as many. It takes no memory.
 // The answer is the number of the blocks taken.
-pub fn take_blocks(
-    front: &mut Vec<Run>,
-    back: &mut Vec<Run>,
-    max: u64,
-    into: &mut Runs,
-) -> u64
+pub fn take_blocks(front: &mut Vec<Run>, back: &mut Vec<Run>, max: u64, into: &mut Runs) -> u64
     requires room { max ≤ into.old.spare }
     requires front { All IsBelowEnd front.old.items }
     requires back { All IsBelowEnd back.old.items }
     ensures count { result ≡ min max (length (blocks_of_queue front.old.items back.old.items)) }
     ensures blocks { blocks_in into.new.held ++ blocks_of_queue front.new.items back.new.items
-      ≡ blocks_in into.old.held ++ blocks_of_queue front.old.items back.old.items }
+        ≡ blocks_in into.old.held ++ blocks_of_queue front.old.items back.old.items }
     ensures taken { length (blocks_in into.new.held) ≡ length (blocks_in into.old.held) + result }
     ensures new_front { All IsBelowEnd front.new.items }
     ensures new_back { All IsBelowEnd back.new.items }

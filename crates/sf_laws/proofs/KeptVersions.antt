@@ -77,13 +77,15 @@ kept_of t row n v since =
     let k = found.0 in
     let last = found.1 in
     let count = length-take-le n t.commits since.high in
-    let place : suc k - 1 ≡ k = omega arith in
-    (suc k, record {
-      low = omega arith;
-      high = omega (arith, last.below, count, since.high);
-      given = ap (λ m. get (get_or t.commits m []) row) place ∙ ap (λ (c : Rows). get c row) (sym (get_or-take n t.commits k [] (omega (arith, last.below, count)))) ∙ last.given;
-      kept = kept-is t row n (suc k) since.low since.high (cases_lt t.floor (suc k)) last.silent;
-    })
+    let place : suc k - 1 ≡ k = omega arith in (
+      suc k,
+      record {
+        low = omega arith;
+        high = omega (arith, last.below, count, since.high);
+        given = ap (λ m. get (get_or t.commits m []) row) place ∙ ap (λ (c : Rows). get c row) (sym (get_or-take n t.commits k [] (omega (arith, last.below, count)))) ∙ last.given;
+        kept = kept-is t row n (suc k) since.low since.high (cases_lt t.floor (suc k)) last.silent;
+      },
+    )
 
 -- the commits up to n are those before the k-th, the k-th, and the rest
 at-commit : (commits : List Rows) (k n : ℕ) → 1 ≤ k → k ≤ n → n ≤ length commits → take n commits ≡ take (k - 1) commits ++ (get_or commits (k - 1) [] ∷ drop k (take n commits))
@@ -118,17 +120,21 @@ since_of t row k v le version = choose (cases_lt t.floor k)
   where
     choose : (t.floor < k) ⊎ (k ≤ t.floor) → (n : ℕ) × IsValueSinceFloor t row n v
     choose (inl past) =
-        let nothing : drop k (take k t.commits) ≡ [] = drop_all k (take k t.commits) (omega (arith, length-take-le k t.commits version.high)) in
-        (k, record {
-          low = omega (arith, past);
-          high = version.high;
-          is = given-at t.commits row k k v version.low (omega arith) version.high version.given (ap (λ (cs : List Rows). said cs row) nothing);
-        })
+        let nothing : drop k (take k t.commits) ≡ [] = drop_all k (take k t.commits) (omega (arith, length-take-le k t.commits version.high)) in (
+          k,
+          record {
+            low = omega (arith, past);
+            high = version.high;
+            is = given-at t.commits row k k v version.low (omega arith) version.high version.given (ap (λ (cs : List Rows). said cs row) nothing);
+          },
+        )
     choose (inr low) =
         let first : nat_lt t.floor k ≡ false = grind (arith, nat_tests) in
-        let silent = none-is (said (drop k (take t.floor t.commits)) row) (rw first at version.kept) in
-        (t.floor, record {
-          low = omega arith;
-          high = le;
-          is = given-at t.commits row k t.floor v version.low low le version.given silent;
-        })
+        let silent = none-is (said (drop k (take t.floor t.commits)) row) (rw first at version.kept) in (
+          t.floor,
+          record {
+            low = omega arith;
+            high = le;
+            is = given-at t.commits row k t.floor v version.low low le version.given silent;
+          },
+        )

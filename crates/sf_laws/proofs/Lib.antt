@@ -12,6 +12,7 @@ mod KeptVersions
 mod Least
 mod LockSteps
 mod Locks
+mod NewBirths
 mod Places
 mod PublishCases
 mod ReachSteps

@@ -51,9 +51,9 @@ swapped_outside a b c v le =
     let size : length (front ++ left ++ right) ≡ a + b + c = omega (arith, three, two, first, second, third) in
     record {
       before = take-append-le a (front ++ left ++ right) rest (omega (arith, size))
-        ∙ take-append-le a (front ++ left) right (omega (arith, two, first))
-        ∙ take-append-le a front left (omega (arith, first))
-        ∙ take_all a front (omega (arith, first));
+          ∙ take-append-le a (front ++ left) right (omega (arith, two, first))
+          ∙ take-append-le a front left (omega (arith, first))
+          ∙ take_all a front (omega (arith, first));
       after = drop_at (front ++ left ++ right) rest (a + b + c) size;
     }
 

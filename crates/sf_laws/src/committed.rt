@@ -10,5 +10,4 @@ ghost use Rattle.sf_laws.specs.Committed.{IsAllStored};
 pub fn committed_values_are_stored()
     ensures opening { (options : Options) (sessions : ℕ) → IsAllStored (opening options sessions) }
     ensures kept { (t : Table) (e : Entry) → IsLegal t e.token.session e.token.kind e.call → IsAllStored t → IsAllStored (apply t e).0 }
-{
-}
+{}

@@ -14,13 +14,11 @@ pub fn the_least_floor_is_taken()
     ensures least { (t : Table) (of : List Cut) (h k : ℕ) → find (fits_at t of) (candidates t) ≡ Some h → t.floor ≤ k → k < h → fits_at t of k ≡ false }
     ensures none { (t : Table) (of : List Cut) (k : ℕ) → find (fits_at t of) (candidates t) ≡ None → t.floor ≤ k → k ≤ (if t.options.max then now t else t.floor) → fits_at t of k ≡ false }
     ensures last { (t : Table) → t.floor ≤ now t → last_candidate t ≡ (if t.options.max then now t else t.floor) }
-{
-}
+{}
 
 /// Instr answers the least place at or after the offset where the pattern stands, and 0 where it stands at none.
 pub fn the_least_place_is_answered()
     ensures stands { (bytes pattern : List ℕ) (offset k : ℕ) → 1 ≤ offset → place_of bytes pattern offset ≡ k + 1 → (offset ≤ k + 1) × (stands_at bytes pattern (k + 1) ≡ true) }
     ensures least { (bytes pattern : List ℕ) (offset k : ℕ) → 1 ≤ offset → offset ≤ k → k < place_of bytes pattern offset → stands_at bytes pattern k ≡ false }
     ensures none { (bytes pattern : List ℕ) (offset k : ℕ) → 1 ≤ offset → place_of bytes pattern offset ≡ 0 → offset ≤ k → k ≤ length bytes → stands_at bytes pattern k ≡ false }
-{
-}
+{}

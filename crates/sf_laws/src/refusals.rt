@@ -12,12 +12,10 @@ ghost use Rattle.sf_types.specs.Orders.{apply};
 /// A refused entry leaves the table as it was, a refused promise too, whose floor stays.
 pub fn a_refused_entry_changes_nothing()
     ensures law { (t : Table) (e : Entry) (f : Fault) → IsTrue (has_session t e.token.session) → (apply t e).1 ≡ Some (reply.Refused f) → (apply t e).0 ≡ t }
-{
-}
+{}
 
 /// A call is refused by the first of its tests that holds, and by none where none holds.
 pub fn the_first_test_refuses()
     ensures first { (before after : List (Bool × Fault)) (f : Fault) → list_any (λ test. test.0) before ≡ false → first_of (before ++ (true, f) ∷ after) ≡ Some f }
     ensures none { (tests : List (Bool × Fault)) → list_any (λ test. test.0) tests ≡ false → first_of tests ≡ None }
-{
-}
+{}

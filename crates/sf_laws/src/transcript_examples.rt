@@ -9,5 +9,4 @@ ghost use Rattle.sf_laws.specs.TranscriptExamples.{first_calls, first_history, f
 pub fn the_first_path()
     ensures whole { IsWhole standard_options (first_calls ∷ []) (map (λ e. e.token) first_history) }
     ensures right { IsRight standard_options (first_calls ∷ []) first_transcript }
-{
-}
+{}

@@ -108,7 +108,9 @@ compare_refusal p left right amount left_offset right_offset =
 
 abbrev pub compare_call : Session → List ℕ → List ℕ → ℕ → ℕ → ℕ → Session × Reply
 compare_call p left right amount left_offset right_offset =
-    refused_or (compare_refusal p left right amount left_offset right_offset) p
-    (p, reply.Equal (bytes_eq
-        (part (strip (locator p left).value) amount left_offset)
-        (part (strip (locator p right).value) amount right_offset)))
+    refused_or (compare_refusal p left right amount left_offset right_offset) p (
+      p,
+      reply.Equal (bytes_eq
+          (part (strip (locator p left).value) amount left_offset)
+          (part (strip (locator p right).value) amount right_offset)),
+    )

@@ -68,9 +68,10 @@ settled_result t s p at c =
 
 -- A writing call done with its settled result.
 abbrev pub publish_write : Table → ℕ → Session → List ℕ → Call → Table × Reply
-publish_write t s p at c =
-    (with_session (with_contents t s c) s (written (unpromised p) at (settled_result t s p at c)),
-    answered c (old_value p (current t (written_row p at)) at))
+publish_write t s p at c = (
+  with_session (with_contents t s c) s (written (unpromised p) at (settled_result t s p at c)),
+  answered c (old_value p (current t (written_row p at)) at),
+)
 
 -- A Commit done with the settled working values.
 abbrev pub publish_commit : Table → ℕ → Session → Table × Reply

@@ -28,7 +28,7 @@ abbrev pub saved : Session → List (List ℕ) → List ℕ → Session
 saved p locked name = record p {
   epoch = p.epoch + 1;
   savepoints = filter (λ x. not (is_name_of name x.name)) p.savepoints
-    ++ record { name = name; epoch = p.epoch + 1; working = p.working; locked = locked } ∷ [];
+      ++ record { name = name; epoch = p.epoch + 1; working = p.working; locked = locked } ∷ [];
 }
 
 abbrev pub savepoint : Session → List (List ℕ) → List ℕ → Session × Reply

@@ -107,5 +107,5 @@ pub record IsRight (options : Options) (calls : List (List Call)) (bytes : List 
   pub runs : All (λ place. AreRuns place.runs) places
   pub safe : IsSafe (run_table options (length calls) whole.history) (map placed_at places)
   pub text : bytes ≡ whole_transcript order (all_replies options (length calls) whole.history) places
-    (options.capacity - placed_blocks places)
-    (ends_of (run_table options (length calls) whole.history)) (now (run_table options (length calls) whole.history))
+      (options.capacity - placed_blocks places)
+      (ends_of (run_table options (length calls) whole.history)) (now (run_table options (length calls) whole.history))

@@ -23,9 +23,9 @@ loop-run-preserved c =
     let both = length-append (blocks_in (take k runs)) (blocks_in_run run) in
     record {
       blocks = c.put_run-count.ensures.blocks
-        ∙ ap (λ (xs : List ℕ). xs ++ blocks_in_run run) c.loop-run.invariant.blocks
-        ∙ append_assoc old (blocks_in (take k runs)) (blocks_in_run run)
-        ∙ ap (λ (xs : List ℕ). old ++ xs) (sym next);
+          ∙ ap (λ (xs : List ℕ). xs ++ blocks_in_run run) c.loop-run.invariant.blocks
+          ∙ append_assoc old (blocks_in (take k runs)) (blocks_in_run run)
+          ∙ ap (λ (xs : List ℕ). old ++ xs) (sym next);
       count = omega (arith, c.loop-run.invariant.count, c.put_run-count.ensures.count, ap length next, both, size);
       below = c.put_run-count.ensures.new;
       capacity = omega (arith, c.loop-run.invariant.capacity, c.put_run-count.ensures.room);

@@ -17,9 +17,9 @@ loop-taken-preserved c =
     let old = c.loop-taken.invariant in
     record {
       blocks = ap (λ (xs : List ℕ). xs ++ queue) more
-        ∙ append_assoc (blocks_in held) (blocks_in_run run) queue
-        ∙ ap (λ (xs : List ℕ). blocks_in held ++ xs) (c.take_first-run.ensures.blocks c.make_ready.new.back.items ∙ ap blocks_in c.make_ready.ensures.runs)
-        ∙ old.blocks;
+          ∙ append_assoc (blocks_in held) (blocks_in_run run) queue
+          ∙ ap (λ (xs : List ℕ). blocks_in held ++ xs) (c.take_first-run.ensures.blocks c.make_ready.new.back.items ∙ ap blocks_in c.make_ready.ensures.runs)
+          ∙ old.blocks;
       taken = omega (arith, ap length more, both, size, old.taken, c.from-taken.ensures);
       most = omega (arith, old.most, c.take_first-run.ensures.size, c.from-taken.ensures, c.loop-taken-test.true);
       front = c.take_first-run.ensures.below;

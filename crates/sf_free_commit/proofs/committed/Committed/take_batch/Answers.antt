@@ -11,12 +11,14 @@ invariant_of-self c =
     let old = c.self.inside in
     let new = c.take_blocks-taken.new in
     let left = length-append (blocks_in new.into.held) (blocks_of_queue new.front.items new.back.items) in
-    let all = length-append (blocks_in c.args.into.now.held) (blocks_of_queue old.front.items old.back.items) in
-    (record {
-      front_below = told.new_front;
-      back_below = told.new_back;
-      counted = omega (arith, ap length told.blocks, left, all, told.taken, c.self.invariant.0.counted);
-    }, omega (arith, told.len, told.capacity, c.self.invariant.1))
+    let all = length-append (blocks_in c.args.into.now.held) (blocks_of_queue old.front.items old.back.items) in (
+      record {
+        front_below = told.new_front;
+        back_below = told.new_back;
+        counted = omega (arith, ap length told.blocks, left, all, told.taken, c.self.invariant.0.counted);
+      },
+      omega (arith, told.len, told.capacity, c.self.invariant.1),
+    )
 
 pub returns-clause-taken : goal.returns-clause-taken
 returns-clause-taken c =
