@@ -2,34 +2,11 @@
 use Rattle.std.proofs.Common.{◌≡◌, ℕ, ◌+◌, ◌-◌, ◌≤◌, ◌<◌, ◌^◌, List, [], ◌∷◌, ◌++◌, length, take, drop, get_or, sym, ap, ◌∙◌, arith}
 use Rattle.std.proofs.Math.Seq.{take-append_seam, take-append-add, drop-append_seam, drop-append-add}
 use Rattle.std.specs.Prelude.{All}
-use Rattle.std.proofs.lemmas.List.{append-nil, take_more}
 use Rattle.std.proofs.lemmas.List.Concat.{get_or-flat_map}
-use Rattle.std.proofs.lemmas.List.Folds.{length-flat_map-take}
 use Rattle.std.proofs.lemmas.List.FromFn.{length-range_with_len, get_or-range_with_len}
-use Rattle.std.proofs.lemmas.Grind.{flat_map-append}
 use Rattle.sf_types.specs.declared.place.Run.{Run}
 use Rattle.sf_types.specs.Placings.{blocks_in, blocks_in_run}
-
-abbrev pub no_run : Run
-no_run = record { first = 0; blocks = 0 }
-
--- the blocks of some runs and one more
-pub push-blocks : (runs more : List Run) (run : Run) → more ≡ runs ++ run ∷ [] → blocks_in more ≡ blocks_in runs ++ blocks_in_run run
-push-blocks runs more run is =
-    ap blocks_in is
-    ∙ flat_map-append blocks_in_run runs (run ∷ [])
-    ∙ ap (λ (xs : List ℕ). blocks_in runs ++ xs) (append-nil (blocks_in_run run))
-
--- the blocks of one run more
-pub next-blocks : (runs : List Run) (k : ℕ) → k < length runs → blocks_in (take (k + 1) runs) ≡ blocks_in (take k runs) ++ blocks_in_run (get_or runs k no_run)
-next-blocks runs k less =
-    push-blocks (take k runs) (take (k + 1) runs) (get_or runs k no_run) (take_more runs k no_run less)
-
--- they are no more than all blocks
-pub next-count : (runs : List Run) (k : ℕ) → k < length runs → length (blocks_in (take k runs)) + (get_or runs k no_run).blocks ≤ length (blocks_in runs)
-next-count runs k less =
-    let run = get_or runs k no_run in
-    omega (arith, length-flat_map-take blocks_in_run runs k no_run less, length-range_with_len run.first run.blocks)
+use Rattle.sf_types.proofs.RunBlocks.{no_run, push-blocks, next-count}
 
 -- the last block of a run is below the end
 pub run-below : (runs : List Run) (k : ℕ) → k < length runs → All (λ block. block < 2 ^ 32) (blocks_in runs) → 1 ≤ (get_or runs k no_run).blocks → (get_or runs k no_run).first + (get_or runs k no_run).blocks ≤ 2 ^ 32

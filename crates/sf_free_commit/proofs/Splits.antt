@@ -1,25 +1,13 @@
 -- A run that is split in two.
-use Rattle.std.proofs.Common.{◌≡◌, ℕ, zero, suc, ◌+◌, ◌-◌, ◌<◌, List, [], ◌∷◌, ◌++◌, sym, ap, ◌∙◌, subst, append_assoc, arith}
+use Rattle.std.proofs.Common.{◌≡◌, ℕ, ◌+◌, ◌-◌, ◌<◌, List, [], ◌∷◌, ◌++◌, sym, ap, ◌∙◌, subst, append_assoc, arith}
 use Rattle.std.specs.Prelude.{All}
 use Rattle.std.specs.List.{range_with_len, AllByRecursion}
 use Rattle.std.proofs.lemmas.List.Elements.{All-push, All-from_recursion, recursion_from_All}
 use Rattle.std.proofs.lemmas.List.{reverse-append}
 use Rattle.sf_types.specs.declared.place.Run.{Run}
 use Rattle.sf_types.specs.Placings.{blocks_in, blocks_in_run}
+use Rattle.sf_types.proofs.RunBlocks.{range-split}
 use Rattle.sf_free_commit.specs.Queues.{blocks_of_queue, IsBelowEnd}
-
--- so many numbers, and then the others
-range-split : (first a b : ℕ) → range_with_len first (a + b) ≡ range_with_len first a ++ range_with_len (first + a) b
-range-split first zero b =
-    let none : 0 + b ≡ b = omega arith in
-    let same : first ≡ first + 0 = omega arith in
-    ap (λ n. range_with_len first n) none ∙ ap (λ k. range_with_len k b) same
-range-split first (suc a) b =
-    let more : suc a + b ≡ suc (a + b) = omega arith in
-    let next : first + 1 + a ≡ first + suc a = omega arith in
-    ap (λ n. range_with_len first n) more
-    ∙ ap (λ (xs : List ℕ). first ∷ xs) (range-split (first + 1) a b)
-    ∙ ap (λ k. first ∷ (range_with_len (first + 1) a ++ range_with_len k b)) next
 
 -- the last run of the front is the first of the queue
 pub first-of : (front back : List Run) (run : Run) → blocks_of_queue (front ++ run ∷ []) back ≡ blocks_in_run run ++ blocks_of_queue front back

@@ -1,4 +1,5 @@
 pub mod NameMapLemmas
 pub mod RefusedCalls
 pub mod RisingBirths
+pub mod RunBlocks
 pub mod VersionLemmas
