@@ -31,9 +31,11 @@ calls_of script = slice_index_or script.calls 0 []
 abbrev pub history_of : ScriptParts → List Entry
 history_of script = map entry_of (calls_of script ++ End ∷ [])
 
+-- The order of the play.
 abbrev pub order_of : ScriptParts → List Token
 order_of script = map (λ entry. entry.token) (history_of script)
 
+-- The table of the play's start.
 abbrev pub opening_of : ScriptParts → Table
 opening_of script = opening script.options script.sessions
 

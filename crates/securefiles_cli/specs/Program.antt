@@ -22,6 +22,7 @@ is_play [] = false
 is_play (word ∷ []) = bytes_eq (string_bytes word) (codes "play")
 is_play (word ∷ other ∷ others) = false
 
+-- The line that says how the program is used.
 abbrev pub usage_line : List ℕ
 usage_line = line (codes "usage: securefiles_cli play | run | check | bench SEED SESSIONS CALLS")
 
@@ -34,6 +35,7 @@ abbrev pub status_of : Result ScriptParts ScriptFault → Status
 status_of (Ok script) = status.Done
 status_of (Err fault) = status.ScriptRefused
 
+-- The output that an input is due under `play`.
 abbrev pub output_of : Result ScriptParts ScriptFault → List ℕ
 output_of (Ok script) = transcript_of script
 output_of (Err fault) = refusal_line fault
@@ -42,6 +44,7 @@ output_of (Err fault) = refusal_line fault
 abbrev pub due_status : List (String Global) → List ℕ → Status
 due_status words input = if is_play words then status_of (script_of input) else status.Usage
 
+-- The output that any words are due.
 abbrev pub due_output : List (String Global) → List ℕ → List ℕ
 due_output words input = if is_play words then output_of (script_of input) else usage_line
 

@@ -3,6 +3,7 @@ use Rattle.std.specs.Prelude.{ℕ}
 use Rattle.securefiles_cli.specs.declared.status.Status.{Status}
 use Rattle.securefiles_cli.specs.declared.status.Status.TheVariants.{Done, Usage, ScriptRefused, ReadFault, WriteFault, OutOfMemory}
 
+-- The number of each status.
 abbrev pub number_of : Status → ℕ
 number_of Done = 0
 number_of Usage = 2

@@ -7,6 +7,7 @@ use Rattle.sf_types.specs.Placings.{blocks_in}
 abbrev pub runs_of : List Run → List Run → List Run
 runs_of front back = reverse front ++ back
 
+-- The blocks that the queue holds, in their order.
 abbrev pub blocks_of_queue : List Run → List Run → List ℕ
 blocks_of_queue front back = blocks_in (runs_of front back)
 

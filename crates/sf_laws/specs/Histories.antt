@@ -21,6 +21,7 @@ promises_in s c = record { token = record { session = s; kind = kind.Promise }; 
 abbrev pub ends : Call → Entry
 ends c = ends_in 1 c
 
+-- Its promise.
 abbrev pub promises : Call → Entry
 promises c = promises_in 1 c
 
@@ -36,9 +37,11 @@ calls cs = map ends cs
 abbrev pub end_of : Options → List Entry → Table
 end_of options history = run_table options 1 history
 
+-- The replies to its calls.
 abbrev pub replies_of : Options → List Entry → List Reply
 replies_of options history = run_replies options 1 history 1
 
+-- Each of its entries is legal where it stands.
 abbrev pub IsLegalAlone : Options → List Entry → Type 0
 IsLegalAlone options history = IsLegalRun (opening options 1) history
 

@@ -56,6 +56,7 @@ retention_history =
 abbrev pub two_blocks_max : Options
 two_blocks_max = record (store_of 2) { max = true }
 
+-- Three contents one after another, and a look at the first two.
 abbrev pub max_history : List Entry
 max_history =
     calls first_object ++ flushes call.Commit
@@ -91,6 +92,7 @@ apart_history =
 abbrev pub one_block_apart : Options
 one_block_apart = record (store_of 1) { dedup = false }
 
+-- Both objects get the same bytes.
 abbrev pub shared_history : List Entry
 shared_history =
     calls (

@@ -1,6 +1,7 @@
 -- Births are numbers from 1, and a list of them rises.
 use Rattle.std.specs.Prelude.{ℕ, ◌<◌, ◌==◌, nat_lt, List, [], ◌∷◌, if◌then◌else◌}
 
+-- A birth is less than all of a list.
 abbrev pub IsBelowAll : ℕ → List ℕ → Type 0
 IsBelowAll birth [] = Unit {0}
 IsBelowAll birth (b ∷ bs) = (birth < b) × IsBelowAll birth bs
@@ -10,6 +11,7 @@ abbrev pub IsRising : List ℕ → Type 0
 IsRising [] = Unit {0}
 IsRising (b ∷ bs) = IsBelowAll b bs × IsRising bs
 
+-- A birth is greater than all of a list.
 abbrev pub IsAboveAll : ℕ → List ℕ → Type 0
 IsAboveAll birth [] = Unit {0}
 IsAboveAll birth (b ∷ bs) = (b < birth) × IsAboveAll birth bs

@@ -22,6 +22,7 @@ before m (Run run ∷ segments) =
     if is_fresh m then Run (m.byte ∷ run) ∷ segments else Kept (m ∷ []) ∷ Run run ∷ segments
 before m [] = if is_fresh m then Run (m.byte ∷ []) ∷ [] else Kept (m ∷ []) ∷ []
 
+-- The segments of a list of marked bytes, from front to end.
 abbrev pub segments_of : List Marked → List Segment
 segments_of [] = []
 segments_of (m ∷ ms) = before m (segments_of ms)
@@ -35,6 +36,7 @@ parts size (suc count) items = take size items ∷ parts size count (drop size i
 abbrev pub contents_of_run : List ℕ → List (List ℕ)
 contents_of_run run = parts content_bytes (div_ceil (length run) content_bytes) run
 
+-- The contents that a segment makes: none where its bytes aren't fresh.
 abbrev pub contents_of_segment : Segment → List (List ℕ)
 contents_of_segment (Kept marked) = []
 contents_of_segment (Run run) = contents_of_run run
@@ -54,6 +56,7 @@ is_sharing options choice.Standard = options.dedup
 is_sharing options choice.Share = true
 is_sharing options choice.Keep = false
 
+-- The cuts of one value.
 abbrev pub cuts_of_value : Options → Value → List Cut
 cuts_of_value options v =
     map (λ bytes. record { bytes = bytes; is_sharing = is_sharing options v.choice }) (contents_of_value v)
@@ -68,6 +71,7 @@ stored_from birth index [] = []
 stored_from birth index (b ∷ bs) =
     record { byte = b; mark = Stored birth index } ∷ stored_from birth (index + 1) bs
 
+-- The bytes of a whole content as stored by its birth.
 abbrev pub stored : ℕ → List ℕ → List Marked
 stored birth bytes = stored_from birth 0 bytes
 

@@ -48,6 +48,7 @@ move v amount from to =
 abbrev pub erased : {X : Type 0} → List X → ℕ → ℕ → ℕ
 erased v amount offset = length (part v amount offset)
 
+-- The items from a place on, so many or up to the end, become zeros.
 abbrev pub erase : {X : Type 0} → X → List X → ℕ → ℕ → List X
 erase zero v amount offset =
     take (offset - 1) v ++ replicate (erased v amount offset) zero ++ drop (offset - 1 + amount) v

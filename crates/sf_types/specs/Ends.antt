@@ -42,6 +42,7 @@ commit t s p =
 abbrev pub rolled_back : Session → Session
 rolled_back p = record p { is_open = false; working = []; locators = lost_where (λ l. l.is_dirty) p.locators; savepoints = [] }
 
+-- Rollback releases the locks, too, and answers that it is done.
 abbrev pub rollback : Table → ℕ → Session → Table × Reply
 rollback t s p = (record (with_session t s (rolled_back p)) { locks = released t.locks s }, Done)
 
@@ -49,5 +50,6 @@ rollback t s p = (record (with_session t s (rolled_back p)) { locks = released t
 abbrev pub ended : Session → Session
 ended p = record p { is_open = false; working = []; locators = []; savepoints = []; has_ended = true }
 
+-- End releases the locks, too, and answers so.
 abbrev pub end : Table → ℕ → Session → Table × Reply
 end t s p = (record (with_session t s (ended p)) { locks = released t.locks s }, Ended)

@@ -30,6 +30,7 @@ no_locator = record {
   is_read_only = false;
 }
 
+-- The locator of a name, or one that stands for none.
 abbrev pub locator : Session → List ℕ → Locator
 locator p at = unwrap_or (named p at) no_locator
 
@@ -55,28 +56,32 @@ abbrev pub assign : Session → List ℕ → List ℕ → Session × Reply
 assign p to from =
     refused_or (assign_refusal p to from) p (record p { locators = put p.locators to (locator p from) }, reply.Done)
 
--- Free takes a locator away, a lost one too.
+-- Free: there is no such locator. A lost one is taken away like any other.
 abbrev pub free_refusal : Session → List ℕ → Option Fault
 free_refusal p at = first_of (unknown_refusals p (at ∷ []))
 
+-- It takes the locator away.
 abbrev pub free : Session → List ℕ → Session × Reply
 free p at = refused_or (free_refusal p at) p (record p { locators = without p.locators at }, reply.Done)
 
--- Length answers the number of bytes of the locator's own value.
+-- Length: the locator isn't there or is lost.
 abbrev pub length_refusal : Session → List ℕ → Option Fault
 length_refusal p at = first_of (locator_refusals p (at ∷ []))
 
+-- It answers the number of bytes of the locator's own value.
 abbrev pub length_call : Session → List ℕ → Session × Reply
 length_call p at = refused_or (length_refusal p at) p (p, reply.Number (size_of (locator p at).value))
 
--- Read answers the bytes from an offset, counted from 1, amount of them or up to the end.
+-- Read: the locator isn't there or is lost, then the arguments.
 abbrev pub read_refusal : Session → List ℕ → ℕ → ℕ → Option Fault
 read_refusal p at amount offset =
     first_of (locator_refusals p (at ∷ []) ++ read_arguments amount offset (size_of (locator p at).value))
 
+-- The bytes of a value from an offset, counted from 1, amount of them or up to the end.
 abbrev pub read_bytes : Value → ℕ → ℕ → List ℕ
 read_bytes value amount offset = part (strip value) amount offset
 
+-- It answers these bytes of the locator's own value.
 abbrev pub read_call : Session → List ℕ → ℕ → ℕ → Session × Reply
 read_call p at amount offset =
     refused_or (read_refusal p at amount offset) p (p, reply.Bytes (read_bytes (locator p at).value amount offset))
@@ -90,22 +95,24 @@ abbrev pub place_of : List ℕ → List ℕ → ℕ → ℕ
 place_of bytes pattern offset =
     unwrap_or (find (stands_at bytes pattern) (range_with_len offset (length bytes + 1 - offset))) 0
 
--- Instr answers that place in the locator's own value.
+-- Instr: the locator isn't there or is lost, then the arguments.
 abbrev pub instr_refusal : Session → List ℕ → List ℕ → ℕ → Option Fault
 instr_refusal p at pattern offset =
     first_of (locator_refusals p (at ∷ []) ++ instr_arguments pattern offset)
 
+-- It answers that place in the locator's own value.
 abbrev pub instr_call : Session → List ℕ → List ℕ → ℕ → Session × Reply
 instr_call p at pattern offset =
     refused_or (instr_refusal p at pattern offset) p
     (p, reply.Number (place_of (strip (locator p at).value) pattern offset))
 
--- Compare answers whether two parts are equal. A part is the bytes from its offset, amount of them or up to the end,
--- and nothing where the offset is past the end.
+-- Compare: a locator isn't there or is lost, the left one first, then the arguments.
 abbrev pub compare_refusal : Session → List ℕ → List ℕ → ℕ → ℕ → ℕ → Option Fault
 compare_refusal p left right amount left_offset right_offset =
     first_of (locator_refusals p (left ∷ right ∷ []) ++ compare_arguments amount left_offset right_offset)
 
+-- It answers whether two parts are equal. A part is the bytes from its offset, amount of them or up to the end, and
+-- nothing where the offset is past the end.
 abbrev pub compare_call : Session → List ℕ → List ℕ → ℕ → ℕ → ℕ → Session × Reply
 compare_call p left right amount left_offset right_offset =
     refused_or (compare_refusal p left right amount left_offset right_offset) p (

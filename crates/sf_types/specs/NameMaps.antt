@@ -5,6 +5,7 @@ use Rattle.std.specs.Map.{lookup, remove_entry}
 use Rattle.std.specs.BTreeMap.{insert_entry}
 use Rattle.sf_types.specs.Names.{name_cmp}
 
+-- A finite map from names.
 abbrev pub NameMap : Type 0 → Type 0
 NameMap X = List (List ℕ × X)
 
@@ -16,6 +17,7 @@ is_name_of name other = is_eq (name_cmp name other)
 abbrev pub get : {X : Type 0} → NameMap X → List ℕ → Option X
 get m name = lookup (is_name_of name) m
 
+-- Whether a map has something at a name.
 abbrev pub has : {X : Type 0} → NameMap X → List ℕ → Bool
 has m name = is_some (get m name)
 

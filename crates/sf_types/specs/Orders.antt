@@ -33,6 +33,7 @@ pub record IsLegalWhere (due : Bool) (t : Table) (s : ℕ) (k : Kind) (c : Call)
   pub goes_on : (session_of t s).has_ended ≡ false
   pub standing : IsLegalBeside (session_of t s).promise due k c
 
+-- An entry is legal in a table.
 abbrev pub IsLegal : Table → ℕ → Kind → Call → Type 0
 IsLegal t s k c = IsLegalWhere (is_due t s c) t s k c
 
@@ -52,6 +53,7 @@ applied t s kind.Call c = told (applied_call (session_of t s).promise t s c)
 applied t s kind.Promise c = promise t s c
 applied t s kind.Cancel c = (cancel t s, None)
 
+-- The same of an entry.
 abbrev pub apply : Table → Entry → Table × Option Reply
 apply t e = applied t e.token.session e.token.kind e.call
 
@@ -65,6 +67,7 @@ abbrev pub replies_from : Table → List Entry → List (ℕ × Option Reply)
 replies_from t [] = []
 replies_from t (e ∷ es) = (e.token.session, (apply t e).1) ∷ replies_from (apply t e).0 es
 
+-- A reply that was told, where it is this session's.
 abbrev pub reply_to : ℕ → ℕ × Option Reply → Option Reply
 reply_to s (n, answer) = if n == s then answer else None
 
@@ -77,6 +80,7 @@ replies_to s answers = filter_map (reply_to s) answers
 abbrev pub run_table : Options → ℕ → List Entry → Table
 run_table options sessions history = table_after (opening options sessions) history
 
+-- The replies to one session's calls in a run.
 abbrev pub run_replies : Options → ℕ → List Entry → ℕ → List Reply
 run_replies options sessions history s = replies_to s (replies_from (opening options sessions) history)
 
@@ -91,6 +95,7 @@ ended_from t [] = []
 ended_from t (e ∷ es) =
     (e.token.session, option_map (λ answer. e.call) (apply t e).1) ∷ ended_from (apply t e).0 es
 
+-- A call that was ended, where it is this session's.
 abbrev pub ended_by : ℕ → ℕ × Option Call → Option Call
 ended_by s (n, ended) = if n == s then ended else None
 
@@ -103,6 +108,7 @@ calls_ended sessions t history =
 abbrev pub with_ends : List (List Call) → List (List Call)
 with_ends calls = map (λ own. own ++ call.End ∷ []) calls
 
+-- Whether an entry is a cancel.
 abbrev pub is_cancel : Kind → Bool
 is_cancel kind.Call = false
 is_cancel kind.Promise = false

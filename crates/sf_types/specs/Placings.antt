@@ -15,6 +15,7 @@ pub record Placed : Type 0 where
 abbrev pub blocks_in_run : Run → List ℕ
 blocks_in_run run = range_with_len run.first run.blocks
 
+-- The blocks of some runs, one run after the other.
 abbrev pub blocks_in : List Run → List ℕ
 blocks_in runs = flat_map blocks_in_run runs
 

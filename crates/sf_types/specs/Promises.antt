@@ -24,6 +24,7 @@ is_shared_as contents bytes birth =
 abbrev pub found : List Content → List ℕ → Cut → Option ℕ
 found contents reached cut = if cut.is_sharing then find (is_shared_as contents cut.bytes) reached else None
 
+-- Whether a cut is found.
 abbrev pub is_found : List Content → List ℕ → Cut → Bool
 is_found contents reached cut = is_some (found contents reached cut)
 
@@ -60,9 +61,11 @@ candidates t = if t.options.max then range_with_len t.floor (now t + 1 - t.floor
 abbrev pub flush_cuts : Table → ℕ → Call → List Cut
 flush_cuts t s c = cuts t.options (flush_of t (session_of t s) c)
 
+-- The blocks that some cuts want at another floor.
 abbrev pub wanted_at : Table → List Cut → ℕ → ℕ
 wanted_at t of h = wanted t.contents (reach (at_floor t h)) of
 
+-- Whether they are at most the blocks that are free there.
 abbrev pub fits_at : Table → List Cut → ℕ → Bool
 fits_at t of h = nat_le (wanted_at t of h) (free_of (at_floor t h))
 
@@ -81,9 +84,11 @@ granted t s c of h = with_session (at_floor t h) s (record (session_of t s) {
 abbrev pub refusal_at : Table → List Cut → ℕ → Reply
 refusal_at t of g = Refused (fault.NoSpace (wanted_at t of g) (free_of (at_floor t g)))
 
+-- The last floor that a promise may try.
 abbrev pub last_candidate : Table → ℕ
 last_candidate t = unwrap_or (last_or None (candidates t)) t.floor
 
+-- A promise is granted at a candidate, or refused at the last one.
 abbrev pub promised_at : Table → ℕ → Call → List Cut → Option ℕ → Table × Option Reply
 promised_at t s c of (Some h) = (granted t s c of h, None)
 promised_at t s c of None = (t, Some (refusal_at t of (last_candidate t)))

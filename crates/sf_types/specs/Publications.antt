@@ -31,6 +31,7 @@ abbrev pub contents_with : List Content → List ℕ → Cut → List Content
 contents_with contents reached cut =
     if is_found contents reached cut then contents else contents ++ content_of_cut cut ∷ []
 
+-- The births among which the next cut is looked for: with the new one, where one was given out.
 abbrev pub reached_with : List Content → List ℕ → Cut → List ℕ
 reached_with contents reached cut =
     if is_found contents reached cut then reached else reached ++ (length contents + 1) ∷ []
@@ -86,5 +87,6 @@ publish_of t s p call.Commit = publish_commit t s p
 publish_of t s p c =
     option_map_or (λ at. publish_write t s p at c) (written_at c) (with_session t s (unpromised p), Done)
 
+-- The publication of a call of session s.
 abbrev pub publish : Table → ℕ → Call → Table × Reply
 publish t s c = publish_of t s (session_of t s) c

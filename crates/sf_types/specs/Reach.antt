@@ -46,6 +46,7 @@ session_values p =
     ++ map (λ e. e.1.value) p.locators
     ++ flat_map (λ x. values_in x.working) p.savepoints
 
+-- The births that a session's values name.
 abbrev pub session_births : Session → List ℕ
 session_births p = rising (flat_map births_in (session_values p))
 
@@ -59,6 +60,7 @@ session_holdings s [] = []
 session_holdings s (p ∷ ps) =
     record { holder = OfSession s; births = session_births p } ∷ promise_holding s p ++ session_holdings (s + 1) ps
 
+-- What all holders hold.
 abbrev pub holdings : Table → List Holding
 holdings t = version_holdings t ++ session_holdings 1 t.sessions
 

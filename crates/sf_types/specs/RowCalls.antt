@@ -22,6 +22,7 @@ insert_refusal t s p row = first_of (
 abbrev pub inserted : Session → List ℕ → Session
 inserted p row = record (in_transaction p) { working = put p.working row (Some empty_value) }
 
+-- Insert in the table.
 abbrev pub insert : Table → ℕ → Session → List ℕ → Table × Reply
 insert t s p row = refused_or (insert_refusal t s p row) t
     (record (with_session t s (inserted p row)) { locks = with_lock t.locks s row }, Done)
@@ -37,6 +38,7 @@ delete_refusal t s p row = first_of (
 abbrev pub deleted : Session → List ℕ → Session
 deleted p row = record (in_transaction p) { working = put p.working row None }
 
+-- Delete in the table.
 abbrev pub delete : Table → ℕ → Session → List ℕ → Table × Reply
 delete t s p row = refused_or (delete_refusal t s p row) t
     (record (with_session t s (deleted p row)) { locks = with_lock t.locks s row }, Done)
@@ -69,6 +71,7 @@ locked_locator p row value = row_locator p row value (in_transaction p).opened
 abbrev pub locked : Session → List ℕ → List ℕ → Value → Session
 locked p to row value = record (in_transaction p) { locators = put p.locators to (locked_locator p row value) }
 
+-- Lock in the table.
 abbrev pub lock : Table → ℕ → Session → List ℕ → List ℕ → Table × Reply
 lock t s p to row =
     let value = unwrap_or (row_value p (current t row) row) empty_value in
@@ -86,6 +89,7 @@ select_refusal t p to row = first_of (
 abbrev pub selected : Session → List ℕ → List ℕ → Value → Session
 selected p to row value = record p { locators = put p.locators to (row_locator p row value (transaction p)) }
 
+-- Select in the table. It takes no lock.
 abbrev pub select : Table → ℕ → Session → List ℕ → List ℕ → Table × Reply
 select t s p to row =
     let value = unwrap_or (row_value p (current t row) row) empty_value in
@@ -113,9 +117,11 @@ old_locator p row value = record {
   is_read_only = true;
 }
 
+-- It sets the locator, and changes nothing else.
 abbrev pub selected_as_of : Session → List ℕ → List ℕ → Value → Session
 selected_as_of p to row value = record p { locators = put p.locators to (old_locator p row value) }
 
+-- SelectAsOf in the table.
 abbrev pub select_as_of : Table → ℕ → Session → List ℕ → List ℕ → ℕ → Table × Reply
 select_as_of t s p to row n =
     let value = unwrap_or (at t row n) empty_value in

@@ -15,5 +15,6 @@ row_end (name, value) = record { name = name; len = size_of value; sum = sha256 
 abbrev pub row_ends : NameMap Value → List RowEnd
 row_ends rows = map row_end rows
 
+-- What is told of the rows of a table.
 abbrev pub ends_of : Table → List RowEnd
 ends_of t = row_ends (present_rows t)

@@ -31,6 +31,7 @@ saved p locked name = record p {
       ++ record { name = name; epoch = p.epoch + 1; working = p.working; locked = locked } ∷ [];
 }
 
+-- Savepoint, where these rows are locked by the session.
 abbrev pub savepoint : Session → List (List ℕ) → List ℕ → Session × Reply
 savepoint p locked name = refused_or (savepoint_refusal p name) p (saved p locked name, Done)
 
@@ -63,6 +64,7 @@ gone_back p x = record p {
 abbrev pub released_since : NameMap ℕ → ℕ → List (List ℕ) → NameMap ℕ
 released_since locks s named = filter (λ e. not (e.1 == s) || list_any (is_name_of e.0) named) locks
 
+-- The table after session s went back to a savepoint.
 abbrev pub with_savepoint : Table → ℕ → Session → Savepoint → Table
 with_savepoint t s p x = record (with_session t s (gone_back p x)) { locks = released_since t.locks s x.locked }
 
@@ -74,6 +76,7 @@ no_savepoint = record { name = []; epoch = 0; working = []; locked = [] }
 abbrev pub rollback_to_refusal : Session → List ℕ → Option Fault
 rollback_to_refusal p name = first_of ((is_none (savepoint_named p name), fault.NoSavepoint) ∷ [])
 
+-- RollbackTo in the table.
 abbrev pub rollback_to : Table → ℕ → Session → List ℕ → Table × Reply
 rollback_to t s p name =
     let x = unwrap_or (savepoint_named p name) no_savepoint in

@@ -10,6 +10,7 @@ use Rattle.sf_types.specs.Table.{Session, Table, new_session}
 abbrev pub has_session : Table → ℕ → Bool
 has_session t s = nat_le 1 s && nat_le s (length t.sessions)
 
+-- The part of session s.
 abbrev pub session_of : Table → ℕ → Session
 session_of t s = unwrap_or (slice_get t.sessions (s - 1)) new_session
 

@@ -35,6 +35,7 @@ abbrev pub fault_numbers : Fault → List ℕ
 fault_numbers (fault.NoSpace wanted free) = codes " wanted " ++ decimal wanted ++ codes " free " ++ decimal free
 fault_numbers _ = []
 
+-- The text of a refusal: its words, and what it tells.
 abbrev pub fault_text : Fault → List ℕ
 fault_text f = fault_words f ++ fault_numbers f
 
@@ -45,6 +46,7 @@ bytes_text bytes =
     then codes "x" ++ encode_lower bytes
     else codes "bytes " ++ decimal (length bytes) ++ codes " " ++ encode_lower (sha256 bytes)
 
+-- The text of a comparison.
 abbrev pub equal_text : Bool → List ℕ
 equal_text true = codes "equal"
 equal_text false = codes "differ"

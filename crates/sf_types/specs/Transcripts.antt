@@ -37,6 +37,7 @@ mark_of kind.Cancel = []
 abbrev pub token_text : Token → List ℕ
 token_text token = codes " " ++ decimal token.session ++ mark_of token.kind
 
+-- The line of the order.
 abbrev pub order_line : List Token → List ℕ
 order_line order = line (codes "order" ++ flat_map token_text order)
 
@@ -85,6 +86,7 @@ place_at t birth runs =
     let bytes = option_map_or (λ x. x.bytes) (content_of t.contents birth) [] in
     record { birth = birth; len = length bytes; sum = sha256 bytes; runs = runs }
 
+-- A place as a birth with its blocks.
 abbrev pub placed_at : Place → Placed
 placed_at place = record { birth = place.birth; blocks = blocks_in place.runs }
 

@@ -14,9 +14,11 @@ blocks_of size = div_ceil size block_bytes
 abbrev pub content_of : List Content → ℕ → Option Content
 content_of contents birth = slice_get contents (birth - 1)
 
+-- The blocks of a birth's content.
 abbrev pub blocks_of_birth : List Content → ℕ → ℕ
 blocks_of_birth contents birth = option_map_or (λ x. blocks_of (length x.bytes)) (content_of contents birth) 0
 
+-- The blocks of the contents of some births.
 abbrev pub blocks_of_births : List Content → List ℕ → ℕ
 blocks_of_births contents births = sum_by (blocks_of_birth contents) births
 

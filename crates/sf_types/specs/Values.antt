@@ -33,6 +33,7 @@ zero_byte = record { byte = 0; mark = Zero }
 abbrev pub fresh_byte : ℕ → Marked
 fresh_byte b = record { byte = b; mark = Fresh }
 
+-- Bytes of a buffer as marked bytes.
 abbrev pub fresh : List ℕ → List Marked
 fresh bytes = map fresh_byte bytes
 
@@ -48,11 +49,13 @@ strip v = bytes_in v.bytes
 abbrev pub size_of : Value → ℕ
 size_of v = length v.bytes
 
+-- Whether a mark is that of a fresh byte.
 abbrev pub is_fresh_mark : Mark → Bool
 is_fresh_mark Zero = false
 is_fresh_mark Fresh = true
 is_fresh_mark (Stored birth index) = false
 
+-- Whether a byte is fresh.
 abbrev pub is_fresh : Marked → Bool
 is_fresh m = is_fresh_mark m.mark
 

@@ -42,6 +42,7 @@ abbrev pub merged_over : Rows → List Rows → Rows
 merged_over lower [] = lower
 merged_over lower (c ∷ cs) = merged_over (over lower c) cs
 
+-- An entry with its value, where the row is present.
 abbrev pub present_entry : List ℕ × Option Value → Option (List ℕ × Value)
 present_entry (name, None) = None
 present_entry (name, Some value) = Some (name, value)

@@ -87,6 +87,7 @@ abbrev pub chosen : Call → Choice → Choice
 chosen (call.SetOptions at share) before = if share then choice.Share else choice.Keep
 chosen _ before = before
 
+-- The value that a writing call makes of a row's value and its source's.
 abbrev pub edited : Call → Value → Value → Value
 edited c value source = record { bytes = edited_bytes c value.bytes source.bytes; choice = chosen c value.choice }
 
