@@ -1,6 +1,9 @@
 //! What edits leave as it was.
-ghost use Rattle.std.specs.Prelude.{◌≡◌, ℕ, ◌+◌, ◌-◌, ◌<◌, ◌≤◌, min, max, List, [], length, take, drop, replicate, IsPermutation};
-ghost use Rattle.sf_types.specs.Values.{Marked};
+ghost use Rattle.std.specs.Prelude.{◌≡◌, ℕ, ◌+◌, ◌-◌, ◌<◌, ◌≤◌, min, max, List, [], length, take, drop, replicate, IsPermutation, Bool, Option};
+ghost use Rattle.sf_types.specs.declared.call.Call.TheVariants as call;
+ghost use Rattle.sf_types.specs.Table.{Session};
+ghost use Rattle.sf_types.specs.Values.{Marked, Value};
+ghost use Rattle.sf_types.specs.WritingCalls.{old_value, result_of};
 ghost use Rattle.sf_types.specs.Edits.{part, padded, put, insert, delete, replace, move, erase, erased, trim};
 ghost use Rattle.sf_laws.specs.Splices.{IsSplice, IsSameOutside};
 
@@ -45,4 +48,10 @@ pub fn move_permutes()
     ensures outside { (v : List Marked) (amount from to : ℕ) → 1 ≤ from → 1 ≤ to → from - 1 + amount ≤ length v → to ≤ length v + 1 → IsSameOutside v (move v amount from to) (min from to - 1) (max (from + amount) to - 1) }
     ensures front { (v : List Marked) (amount from to : ℕ) → 1 ≤ to → to < from → from - 1 + amount ≤ length v → part (move v amount from to) amount to ≡ part v amount from }
     ensures back { (v : List Marked) (amount from to : ℕ) → 1 ≤ from → from + amount < to → to ≤ length v + 1 → part (move v amount from to) amount (to - amount) ≡ part v amount from }
+{}
+
+/// SetOptions keeps the bytes of the row's value with their marks, so it adds no fresh byte.
+pub fn set_options_keeps_the_bytes()
+    ensures law { (p : Session) (current : Option Value) (at : List ℕ) (share : Bool)
+        → (result_of p current at (call.SetOptions at share)).bytes ≡ (old_value p current at).bytes }
 {}

@@ -26,7 +26,8 @@ use sf_types::{
 use std::alloc::Global;
 use std::marker::Model;
 
-/// The table in a running form, seen as the table. No contents are given out today, and no promise stands.
+/// The table in a running form, seen as the table. Today it follows the provisional rule `never_due` in the place of
+/// `is_due`: no call flushes, so no contents are given out, and no promise stands.
 #[derive(Drop)]
 pub struct Plain {
     options: Options,

@@ -39,7 +39,7 @@ abbrev pub due_of : Table → ℕ → Session → Call → Bool
 due_of t s p call.Commit = list_any (λ e. has_fresh e.1) p.working
 due_of t s p c = option_map_or (λ at. is_write_due t s p at c) (written_at c) false
 
--- Whether a call of session s is due.
+-- Whether a call of session s is due. Today's `play` doesn't follow this rule yet, but `never_due` below.
 abbrev pub is_due : Table → ℕ → Call → Bool
 is_due t s c = due_of t s (session_of t s) c
 
