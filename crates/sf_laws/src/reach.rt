@@ -2,12 +2,12 @@
 ghost use Rattle.std.specs.Prelude.{ℕ, ◌≤◌, ◌<◌, ◌⊎◌, List, length, Contains};
 ghost use Rattle.sf_types.specs.declared.history.Entry.{Entry};
 ghost use Rattle.sf_types.specs.Orders.{IsLegal, apply};
-ghost use Rattle.sf_laws.specs.TrueMarks.{HasTrueMarks};
+ghost use Rattle.sf_laws.specs.TrueMarks.{HasTrueMarks, found_by};
 ghost use Rattle.sf_types.specs.Births.{IsRising};
-ghost use Rattle.sf_types.specs.Values.{Value};
-ghost use Rattle.sf_types.specs.Table.{Table};
+ghost use Rattle.sf_types.specs.Values.{Value, births_in};
+ghost use Rattle.sf_types.specs.Table.{Session, Table};
 ghost use Rattle.sf_types.specs.Versions.{now};
-ghost use Rattle.sf_types.specs.Reach.{reach};
+ghost use Rattle.sf_types.specs.Reach.{reach, session_values};
 ghost use Rattle.sf_laws.specs.KeptVersions.{IsKeptVersion, IsValueSinceFloor};
 
 /// The births in reach rise, each of them once.
@@ -26,4 +26,14 @@ pub fn kept_versions_are_the_values_since_the_floor()
 pub fn births_that_left_stay_away()
     ensures law { (t : Table) (e : Entry) (b : ℕ) → IsLegal t e.token.session e.token.kind e.call → HasTrueMarks t
         → Contains (reach (apply t e).0) b → Contains (reach t) b ⊎ (length t.contents < b) }
+{}
+
+/// A birth that occurs in a value that a row had after some commit from the floor on, in a session's value, or among
+/// what a standing promise found is in reach.
+pub fn what_occurs_is_in_reach()
+    ensures row { (t : Table) (row : List ℕ) (n : ℕ) (v : Value) (b : ℕ) → IsValueSinceFloor t row n v → Contains (births_in v) b
+        → Contains (reach t) b }
+    ensures session { (t : Table) (p : Session) (v : Value) (b : ℕ) → Contains t.sessions p → Contains (session_values p) v → Contains (births_in v) b
+        → Contains (reach t) b }
+    ensures promise { (t : Table) (p : Session) (b : ℕ) → Contains t.sessions p → Contains (found_by p) b → Contains (reach t) b }
 {}
