@@ -1,5 +1,5 @@
 -- Session 1 goes on calling.
-use Rattle.std.proofs.Common.{◌≡◌, ℕ, zero, suc, ◌≤◌, Bool, true, false, ◌&&◌, cond, List, [], ◌∷◌, ◌++◌, ◌+◌, length, replicate, Option, Some, None, refl, sym, subst, arith}
+use Rattle.std.proofs.Common.{◌≡◌, ℕ, zero, suc, ◌≤◌, Bool, true, false, ◌&&◌, cond, List, [], ◌∷◌, ◌+◌, length, replicate, Option, Some, None, refl, sym, subst, arith}
 use Rattle.std.specs.Prelude.{nat_le, slice_get, slice_set, unwrap_or}
 use Rattle.std.proofs.lemmas.Bool.Decides.{nat_tests}
 use Rattle.sf_types.specs.declared.call.Call.{Call}
@@ -17,7 +17,7 @@ use Rattle.sf_types.specs.RowCalls.{insert_refusal, inserted, lock_refusal, lock
 use Rattle.sf_types.specs.LocatorCalls.{locator, length_refusal, length_call, read_refusal, read_bytes, read_call}
 use Rattle.sf_types.specs.WritingCalls.{writing_refusal, old_value, result_of, answered, written, write}
 use Rattle.sf_types.specs.Ends.{committed, with_commit}
-use Rattle.sf_types.specs.Refusals.{first_of, refused_or}
+use Rattle.sf_types.specs.Refusals.{refused_or}
 use Rattle.sf_types.specs.Step.{step}
 use Rattle.sf_types.specs.Orders.{IsLegalWhere}
 use Rattle.sf_script.specs.Parts.{can_stand}

@@ -29,7 +29,7 @@ abbrev pub IsReadAs : Result ScriptParts ScriptFault → List ℕ → Option (Li
 IsReadAs (Ok script) input left = left ≡ Some []
 IsReadAs (Err fault) input left = IsReadFor fault.reason input left
 
--- The source failed only where its count of faults rose.
+-- The source failed where its count of faults rose. Where memory was wanted it hadn't failed.
 abbrev pub IsCause : ℕ → ℕ → ReadError → Type 0
-IsCause before now errors.Memory = Unit {0}
+IsCause before now errors.Memory = now ≡ before
 IsCause before now errors.Failed = Rose before now

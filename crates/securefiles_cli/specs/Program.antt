@@ -71,10 +71,10 @@ pub record IsCutOff (input : List ℕ) (left before after : Option (List ℕ)) :
   pub ended : IsReadAs (script_of input) input left
   pub written : GrowsByFront before after (output_of (script_of input))
 
--- Where the answer stops before the output, memory was wanted, or under `play` the source failed and its count of faults
--- rose.
+-- Where the answer stops before the output, memory was wanted and the source hadn't failed, or under `play` the source
+-- failed and its count of faults rose.
 abbrev pub IsStop : List (String Global) → ℕ → ℕ → Status → Type 0
-IsStop words before now status.OutOfMemory = Unit {0}
+IsStop words before now status.OutOfMemory = now ≡ before
 IsStop words before now status.ReadFault = IsTrue (is_play words) × Rose before now
 IsStop words before now status.Done = ⊥
 IsStop words before now status.Usage = ⊥

@@ -1,5 +1,5 @@
 //! Reading the whole input.
-ghost use Rattle.std.specs.Prelude.{◌≡◌, ◌≤◌, IfSome, IfOk, IfErr, vec_len};
+ghost use Rattle.std.specs.Prelude.{◌≡◌, ◌≤◌, IfSome, IfOk, IfErr, OnOk, vec_len};
 ghost use Rattle.sf_outside.specs.Causes.{Rose};
 ghost use Rattle.securefiles_cli.specs.Inputs.{IsRead, IsCause, read_limit};
 
@@ -43,6 +43,7 @@ fn zeros(alloc: Global, count: usize) -> Result<Vec<u8>, AllocError>
 pub fn read_input<S: Source>(alloc: Global, source: &mut S) -> Result<Vec<u8>, ReadError>
     ensures read { IfSome (S.left source.old) (λ input. IfOk result (λ bytes. IsRead input (S.left source.new) bytes.items)) }
     ensures later { S.faults source.old ≤ S.faults source.new }
+    ensures steady { OnOk result (S.faults source.new ≡ S.faults source.old) }
     ensures cause { IfErr result (IsCause (S.faults source.old) (S.faults source.new)) }
 {
     let mut bytes = Vec::new(alloc);

@@ -1,5 +1,5 @@
 //! Writing the whole output.
-ghost use Rattle.std.specs.Prelude.{◌≤◌, OnOk, OnErr};
+ghost use Rattle.std.specs.Prelude.{◌≡◌, ◌≤◌, OnOk, OnErr};
 ghost use Rattle.sf_outside.specs.Causes.{Rose};
 ghost use Rattle.sf_outside.specs.Sink.{GrowsBy};
 ghost use Rattle.securefiles_cli.specs.Outputs.{GrowsByFront};
@@ -11,6 +11,7 @@ pub fn write_output<K: Sink>(sink: &mut K, text: &[u8]) -> Result<(), Failed>
     ensures whole { OnOk result (GrowsBy (K.taken sink.old) (K.taken sink.new) text.now) }
     ensures front { OnErr result (GrowsByFront (K.taken sink.old) (K.taken sink.new) text.now) }
     ensures later { K.faults sink.old ≤ K.faults sink.new }
+    ensures steady { OnOk result (K.faults sink.new ≡ K.faults sink.old) }
     ensures cause { OnErr result (Rose (K.faults sink.old) (K.faults sink.new)) }
 {
     let mut rest = text;

@@ -93,6 +93,7 @@ fn answer_words<S: Source>(
     ensures unread { is_play words.now ≡ false → source.new ≡ source.old }
     ensures stopped { IfErr result (IsStop words.now (S.faults source.old) (S.faults source.new)) }
     ensures later { S.faults source.old ≤ S.faults source.new }
+    ensures steady { OnOk result (S.faults source.new ≡ S.faults source.old) }
 {
     if !is_play(words) {
         return Ok(Answer {
@@ -142,6 +143,10 @@ pub fn securefiles_plain<S: Source, K: Sink>(
     // Every status has its cause.
     ensures due { IfSome (S.left source.old) (λ input. IsDue result (due_status words.now input)) }
     ensures later { (S.faults source.old ≤ S.faults source.new) × (K.faults sink.old ≤ K.faults sink.new) }
+
+    // At the first call that fails the program ends with that fault: with another status none failed.
+    ensures source_never_failed { result ≢ status.ReadFault → S.faults source.new ≡ S.faults source.old }
+    ensures sink_never_failed { result ≢ status.WriteFault → K.faults sink.new ≡ K.faults sink.old }
 {
     let answer = match answer_words(alloc, words, source) {
         Ok(answer) => answer,

@@ -13,7 +13,7 @@ pub trait Sink {
     /// All the bytes that were taken, or `None` where the sink doesn't tell.
     ghost taken: { Self → Option (List ℕ) };
 
-    /// The count of faults. It never falls, and stays at 2^64 - 1.
+    /// The count of faults. It rises with each call that fails, and with no other, and stays at 2^64 - 1.
     ghost faults: { Self → ℕ };
 
     /// Takes the first bytes of the piece, and answers how many: at least 1 where there is one.

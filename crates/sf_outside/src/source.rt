@@ -12,7 +12,7 @@ pub trait Source {
     /// The bytes that are left, or `None` where the source doesn't tell.
     ghost left: { Self → Option (List ℕ) };
 
-    /// The count of faults. It never falls, and stays at 2^64 - 1.
+    /// The count of faults. It rises with each call that fails, and with no other, and stays at 2^64 - 1.
     ghost faults: { Self → ℕ };
 
     /// Puts the first bytes that are left at the front of the buffer, and answers how many.

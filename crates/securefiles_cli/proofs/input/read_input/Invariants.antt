@@ -5,7 +5,7 @@ use Rattle.securefiles_cli.proofs.input.read_input.Given as goal
 abbrev pub invariant-loop-bytes : goal.invariant-loop-bytes
 invariant-loop-bytes g l = record {
   gave : Gave (g.S.Source.left l.fn.source) (g.S.Source.left l.source) l.bytes.items;
-  later : g.S.Source.faults l.fn.source ≤ g.S.Source.faults l.source;
+  steady : g.S.Source.faults l.source ≡ g.S.Source.faults l.fn.source;
   most : vec_len l.bytes ≤ 16777217;
   piece : vec_len l.buffer ≡ 65536;
 }
