@@ -1,0 +1,11 @@
+pub mod Bools
+pub mod Choices
+pub mod Gaps
+pub mod Given
+pub mod Losses
+pub mod Members
+pub mod Order
+pub mod Places
+pub mod Searches
+pub mod Steps
+pub mod Whole
