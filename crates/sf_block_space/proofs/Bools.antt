@@ -41,3 +41,23 @@ or-regroup false b c = refl
 pub or-true : (a b : Bool) → b ≡ true → (a || b) ≡ true
 or-true true b is = refl
 or-true false b is = is
+
+pub or-middle : (a b c : Bool) → b ≡ true → (a || (b || c)) ≡ true
+or-middle a b c is = rw is (all-true a)
+  where
+    all-true : (x : Bool) → (x || true) ≡ true
+    all-true true = refl
+    all-true false = refl
+
+-- what holds without another excludes it
+pub and-first : (a b : Bool) → (a && not b) ≡ true → a ≡ true
+and-first true b is = refl
+and-first false b is = is
+
+pub and-second : (a b : Bool) → (a && not b) ≡ true → b ≡ false
+and-second a true is = absurd (no a is)
+  where
+    no : (x : Bool) → (x && false) ≡ true → ⊥
+    no true bad = cc
+    no false bad = cc
+and-second a false is = refl

@@ -1,8 +1,11 @@
 -- Blocks that are taken out of runs.
+use Rattle.std.specs.Prelude.{All, AllPairs, true, ◌≢◌}
+use Rattle.std.proofs.lemmas.List.Elements.{All-append}
 use Rattle.std.proofs.Common.{◌≡◌, ℕ, suc, ◌+◌, ◌-◌, ◌≤◌, ◌<◌, ◌⊎◌, inl, inr, List, [], ◌∷◌, ◌++◌, Some, length, take, drop, set, get_or, not, ◌&&◌, sym, ap, ◌∙◌, append_assoc, subst, arith}
 use Rattle.std.specs.Prelude.{slice_get}
 use Rattle.std.specs.List.{remove, range_with_len}
 use Rattle.std.proofs.lemmas.List.{length-append, append-nil, set_split}
+use Rattle.std.proofs.lemmas.List.Elements.{All-append}
 use Rattle.std.proofs.lemmas.List.Folds.{list_any-append}
 use Rattle.std.proofs.lemmas.Option.{get_or_from_slice_get, slice_get_within}
 use Rattle.std.proofs.lemmas.Grind.{flat_map-append}
@@ -10,8 +13,8 @@ use Rattle.sf_types.specs.declared.place.Run.{Run}
 use Rattle.sf_types.specs.Placings.{blocks_in, blocks_in_run}
 use Rattle.sf_block_space.specs.Free.{AreFreeRuns, AreFreeRunsFrom, has_block, past}
 use Rattle.sf_block_space.specs.Grants.{IsNext, IsTaken, Loses, front_of, rest_of}
-use Rattle.sf_block_space.proofs.Bools.{none-of-both, and-true, and-neither}
-use Rattle.sf_block_space.proofs.Members.{is_among, range-split, range-from, out-of-range, has-append, none-below, none-before, loses-from}
+use Rattle.sf_block_space.proofs.Bools.{none-of-both, and-true, and-neither, and-first, and-second}
+use Rattle.sf_block_space.proofs.Members.{is_among, range-split, range-from, out-of-range, has-append, range-once, pairs-append, none-below, none-before, loses-from}
 use Rattle.sf_block_space.proofs.Order.{begin-before, behind, replaced, parts-at, run-within}
 
 -- a run whole
@@ -21,6 +24,7 @@ whole-loses capacity before after run free =
     (flat_map-append blocks_in_run before (run ∷ after))
     (flat_map-append blocks_in_run before after)
     (append-nil (blocks_in_run run))
+    (range-once run.first run.blocks)
     (λ block among.
     let here = range-from run.first run.blocks block among in
     none-of-both (has_block before block) (has_block after block)
@@ -44,6 +48,7 @@ front-loses capacity before after run n less free =
     ∙ ap (λ (xs : List ℕ). blocks_in before ++ xs) (append_assoc front rest (blocks_in after)))
     (flat_map-append blocks_in_run before (rest_of run n ∷ after))
     (append-nil front)
+    (range-once run.first n)
     (λ block among.
     let here = range-from run.first n block among in
     none-of-both (has_block before block) (is_among (rest ++ blocks_in after) block)
@@ -106,16 +111,27 @@ taken-size capacity runs n taken left free wanted (at, run, next, how) = choose 
 
 -- nothing is lost, and one run more
 pub loses-none : (runs : List Run) → Loses runs runs []
-loses-none runs = record { blocks = λ block. and-true (has_block runs block); count = omega arith; kept = λ capacity free. free }
+loses-none runs = record { blocks = λ block. and-true (has_block runs block); count = omega arith; held = λ k d less. absurd (omega (arith, less)); once = λ i j d less within. absurd (omega (arith, within)); kept = λ capacity free. free }
 
 pub loses-more : (runs left less lost : List Run) (run : Run) → Loses runs left lost → Loses left less (run ∷ []) → Loses runs less (lost ++ run ∷ [])
 loses-more runs left less lost run first then =
+    let both = flat_map-append blocks_in_run lost (run ∷ []) in
     record {
       blocks = λ block.
           then.blocks block
           ∙ ap (λ x. x && not (has_block (run ∷ []) block)) (first.blocks block)
           ∙ and-neither (has_block runs block) (has_block lost block) (has_block (run ∷ []) block)
           ∙ ap (λ x. has_block runs block && not x) (sym (has-append lost (run ∷ []) block));
-      count = omega (arith, first.count, then.count, ap length (flat_map-append blocks_in_run lost (run ∷ [])), length-append (blocks_in lost) (blocks_in (run ∷ [])));
+      count = omega (arith, first.count, then.count, ap length both, length-append (blocks_in lost) (blocks_in (run ∷ [])));
+      held = subst (All (λ block. has_block runs block ≡ true)) (sym both)
+        (All-append (λ block. has_block runs block ≡ true) (blocks_in lost) (blocks_in (run ∷ [])) first.held
+        (λ k d within.
+          let block = get_or (blocks_in (run ∷ [])) k d in
+          and-first (has_block runs block) (has_block lost block) (sym (first.blocks block) ∙ then.held k d within)));
+      once = subst (AllPairs (λ x y. x ≢ y)) (sym both)
+        (pairs-append (blocks_in lost) (blocks_in (run ∷ [])) first.once then.once
+        (λ k d within.
+          let block = get_or (blocks_in (run ∷ [])) k d in
+          and-second (has_block runs block) (has_block lost block) (sym (first.blocks block) ∙ then.held k d within)));
       kept = λ capacity free. then.kept capacity (first.kept capacity free);
     }

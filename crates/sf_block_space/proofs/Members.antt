@@ -1,17 +1,20 @@
 -- The blocks of some runs.
-use Rattle.std.proofs.Common.{◌≡◌, ℕ, zero, suc, ◌+◌, ◌≤◌, ◌<◌, ◌≢◌, ◌⊎◌, inl, inr, List, [], ◌∷◌, ◌++◌, length, Bool, true, false, not, ◌||◌, ◌&&◌, refl, sym, ap, ◌∙◌, arith}
-use Rattle.std.specs.Prelude.{nat_eq, All}
+use Rattle.std.proofs.Common.{subst, ◌-◌}
+use Rattle.std.proofs.lemmas.List.{get_or_append_left, get_or-append_right}
+use Rattle.std.proofs.lemmas.List.FromFn.{length-range_with_len, get_or-range_with_len}
+use Rattle.std.proofs.Common.{◌≡◌, ℕ, zero, suc, ◌+◌, ◌≤◌, ◌<◌, ◌≢◌, ◌⊎◌, inl, inr, List, [], ◌∷◌, ◌++◌, length, get_or, Bool, true, false, not, ◌||◌, ◌&&◌, refl, sym, ap, ◌∙◌, arith}
+use Rattle.std.specs.Prelude.{nat_eq, All, AllPairs}
 use Rattle.std.specs.List.{range_with_len, list_any}
 use Rattle.std.proofs.lemmas.Bool.{cases_lt}
-use Rattle.std.proofs.lemmas.Bool.Decides.{eqb_tells}
+use Rattle.std.proofs.lemmas.Bool.Decides.{eqb_tells, Decides-eqb}
 use Rattle.std.proofs.lemmas.List.{length-append}
-use Rattle.std.proofs.lemmas.List.Folds.{list_any-append}
+use Rattle.std.proofs.lemmas.List.Folds.{list_any-append, list_any_at}
 use Rattle.std.proofs.lemmas.Grind.{flat_map-append}
 use Rattle.sf_types.specs.declared.place.Run.{Run}
 use Rattle.sf_types.specs.Placings.{blocks_in, blocks_in_run}
 use Rattle.sf_block_space.specs.Free.{AreFreeRuns, AreFreeRunsFrom, has_block, Gains}
 use Rattle.sf_block_space.specs.Grants.{Loses}
-use Rattle.sf_block_space.proofs.Bools.{none-of-both, middle-last, without-middle}
+use Rattle.sf_block_space.proofs.Bools.{none-of-both, middle-last, or-middle, without-middle}
 use Rattle.sf_block_space.proofs.Order.{first-behind}
 
 abbrev pub is_among : List ℕ → ℕ → Bool
@@ -91,6 +94,59 @@ none-before from capacity (other ∷ before) run after block free less =
     (out-of-range other.first other.blocks block (inr (omega (arith, less, first-behind (other.first + other.blocks + 1) capacity before run after free.3))))
     (none-before (other.first + other.blocks + 1) capacity before run after block free.3 less)
 
+-- no block at the capacity or behind
+pub none-above : (from capacity : ℕ) (runs : List Run) (block : ℕ) → AreFreeRunsFrom from capacity runs → capacity ≤ block → has_block runs block ≡ false
+none-above from capacity [] block free less = refl
+none-above from capacity (run ∷ runs) block free less =
+    has-cons run runs block
+    ∙ none-of-both (is_among (blocks_in_run run) block) (has_block runs block)
+      (out-of-range run.first run.blocks block (inr (omega (arith, less, free.2))))
+      (none-above (run.first + run.blocks + 1) capacity runs block free.3 less)
+
+pub block-below : (capacity : ℕ) (runs : List Run) (block : ℕ) → AreFreeRuns capacity runs → has_block runs block ≡ true → block < capacity
+block-below capacity runs block free has = choose (cases_lt block capacity)
+  where
+    choose : (block < capacity) ⊎ (capacity ≤ block) → block < capacity
+    choose (inl less) = less
+    choose (inr more) = let no = none-above 0 capacity runs block free more in absurd (cc)
+
+-- an item is among its list
+pub item-among : (blocks : List ℕ) (k d : ℕ) → k < length blocks → is_among blocks (get_or blocks k d) ≡ true
+item-among blocks k d less = list_any_at (nat_eq (get_or blocks k d)) blocks k d less ((Decides-eqb (get_or blocks k d) (get_or blocks k d)).1 refl)
+
+-- the blocks of a run are apart
+pub range-once : (first n : ℕ) → AllPairs (λ x y. x ≢ y) (range_with_len first n)
+range-once first n i j d less within same =
+    let size = length-range_with_len first n in
+    let below : j < n = omega (arith, within, size) in
+    let at-i = get_or-range_with_len first n i d (omega (arith, less, below)) in
+    let at-j = get_or-range_with_len first n j d below in
+    omega (arith, less, at-i, at-j, same)
+
+-- two lists with items apart, and apart from each other
+pub pairs-append : (xs ys : List ℕ) → AllPairs (λ x y. x ≢ y) xs → AllPairs (λ x y. x ≢ y) ys → All (λ y. is_among xs y ≡ false) ys → AllPairs (λ x y. x ≢ y) (xs ++ ys)
+pairs-append xs ys first then apart i j d less within same = choose (cases_lt j (length xs)) (cases_lt i (length xs))
+  where
+    size : length (xs ++ ys) ≡ length xs + length ys
+    size = length-append xs ys
+    choose : (j < length xs) ⊎ (length xs ≤ j) → (i < length xs) ⊎ (length xs ≤ i) → ⊥
+    choose (inl left) _ =
+        let at-i = get_or_append_left xs ys d i (omega (arith, less, left)) in
+        let at-j = get_or_append_left xs ys d j left in
+        first i j d less left (sym at-i ∙ same ∙ at-j)
+    choose (inr right) (inl left) =
+        let at-i = get_or_append_left xs ys d i left in
+        let at-j = get_or-append_right xs ys (length xs) j d refl right in
+        let in-ys : j - length xs < length ys = omega (arith, within, size, right) in
+        let yes = item-among xs i d left in
+        let no = apart (j - length xs) d in-ys in
+        let is = sym at-i ∙ same ∙ at-j in
+        absurd (cc)
+    choose (inr right) (inr more) =
+        let at-i = get_or-append_right xs ys (length xs) i d refl more in
+        let at-j = get_or-append_right xs ys (length xs) j d refl right in
+        then (i - length xs) (j - length xs) d (omega (arith, less, more)) (omega (arith, within, size, right)) (sym at-i ∙ same ∙ at-j)
+
 -- runs that have some blocks more between their others
 pub gains-from : (runs more gained : List Run) (before put after : List ℕ) → blocks_in runs ≡ before ++ after → blocks_in more ≡ before ++ (put ++ after) → blocks_in gained ≡ put
     → ((capacity : ℕ) → AreFreeRuns capacity runs → All (λ block. block < capacity) (blocks_in gained) → AreFreeRuns capacity more)
@@ -111,10 +167,11 @@ gains-from runs more gained before put after runs-are more-are gained-are kept =
 
 -- runs that have lost some blocks between their others
 pub loses-from : (runs left lost : List Run) (before taken after : List ℕ) → blocks_in runs ≡ before ++ (taken ++ after) → blocks_in left ≡ before ++ after → blocks_in lost ≡ taken
+    → AllPairs (λ x y. x ≢ y) taken
     → ((block : ℕ) → is_among taken block ≡ true → (is_among before block || is_among after block) ≡ false)
     → ((capacity : ℕ) → AreFreeRuns capacity runs → AreFreeRuns capacity left)
     → Loses runs left lost
-loses-from runs left lost before taken after runs-are left-are lost-are apart kept =
+loses-from runs left lost before taken after runs-are left-are lost-are once apart kept =
     record {
       blocks = λ block.
           ap (list_any (nat_eq block)) left-are
@@ -125,5 +182,13 @@ loses-from runs left lost before taken after runs-are left-are lost-are apart ke
           ∙ sym (ap (λ (xs : List ℕ). is_among xs block && not (is_among taken block)) runs-are)
           ∙ sym (ap (λ (xs : List ℕ). has_block runs block && not (is_among xs block)) lost-are);
       count = omega (arith, ap length runs-are, ap length left-are, ap length lost-are, length-append before after, length-append before (taken ++ after), length-append taken after);
+      held = subst (All (λ block. has_block runs block ≡ true)) (sym lost-are)
+        (λ k d less.
+          let block = get_or taken k d in
+          ap (list_any (nat_eq block)) runs-are
+          ∙ list_any-append (nat_eq block) before (taken ++ after)
+          ∙ ap (λ x. is_among before block || x) (list_any-append (nat_eq block) taken after)
+          ∙ or-middle (is_among before block) (is_among taken block) (is_among after block) (item-among taken k d less));
+      once = subst (AllPairs (λ x y. x ≢ y)) (sym lost-are) once;
       kept = kept;
     }

@@ -1,5 +1,5 @@
 -- Which free blocks are granted.
-use Rattle.std.specs.Prelude.{◌≡◌, ℕ, ◌+◌, ◌-◌, ◌≤◌, ◌<◌, min, ◌⊎◌, List, [], ◌∷◌, Some, take, All, slice_get, slice_set, length, not, ◌&&◌}
+use Rattle.std.specs.Prelude.{◌≡◌, ℕ, ◌+◌, ◌-◌, ◌≤◌, ◌<◌, min, ◌⊎◌, List, [], ◌∷◌, Some, take, All, AllPairs, ◌≢◌, true, slice_get, slice_set, length, not, ◌&&◌}
 use Rattle.std.specs.List.{remove}
 use Rattle.sf_types.specs.declared.place.Run.{Run}
 use Rattle.sf_types.specs.Placings.{blocks_in}
@@ -44,10 +44,12 @@ IsTaken runs n taken left = (at : ℕ) × (run : Run) × IsNext runs n at run ×
     ((run.blocks ≤ n) × (taken ≡ run) × (left ≡ remove runs at))
     ⊎ ((n < run.blocks) × (taken ≡ front_of run n) × (left ≡ slice_set runs at (rest_of run n))))
 
--- Runs without the blocks of some others, which were in them.
+-- Runs without the blocks of some others, which were in them, each once.
 pub record Loses (runs left lost : List Run) : Type 0 where
   pub blocks : (block : ℕ) → has_block left block ≡ (has_block runs block && not (has_block lost block))
   pub count : length (blocks_in runs) ≡ length (blocks_in left) + length (blocks_in lost)
+  pub held : All (λ block. has_block runs block ≡ true) (blocks_in lost)
+  pub once : AllPairs (λ block other. block ≢ other) (blocks_in lost)
   pub kept : (capacity : ℕ) → AreFreeRuns capacity runs → AreFreeRuns capacity left
 
 -- Room for the runs of a grant of n blocks: for one, and where no run has as many for n or all.

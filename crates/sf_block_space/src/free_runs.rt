@@ -3,7 +3,7 @@ ghost use Rattle.std.specs.Prelude.{◌≡◌, ◌≤◌, ◌<◌, length, All, 
 ghost use Rattle.std.specs.List.{range_with_len};
 ghost use Rattle.sf_types.specs.Placings.{blocks_in};
 ghost use Rattle.sf_types.specs.Rooms.{MakesRoom, GrowsWithin};
-ghost use Rattle.sf_block_space.specs.Free.{has_block, Gains};
+ghost use Rattle.sf_block_space.specs.Free.{AreFreeRuns, has_block, Gains};
 ghost use Rattle.sf_block_space.specs.Grants.{IsGrant, Loses};
 
 use crate::grants::{room_for, take_runs};
@@ -43,6 +43,7 @@ impl FreeRuns {
     pub fn all(alloc: Global, capacity: u32) -> Mem<FreeRuns>
         ensures capacity { IfOk result (λ free. free.held.capacity ≡ capacity) }
         ensures blocks { IfOk result (λ free. blocks_in free.held.runs ≡ range_with_len 0 capacity) }
+        ensures order { IfOk result (λ free. AreFreeRuns capacity free.held.runs) }
     {
         let mut runs = Vec::new(alloc);
         if capacity > 0 {
@@ -80,7 +81,9 @@ impl FreeRuns {
         requires { n ≤ length (blocks_in self.old.held.runs) }
         ensures granted { IfOk result (λ granted. IsGrant self.old.held.runs n granted.held) }
         ensures count { IfOk result (λ granted. length (blocks_in granted.held) ≡ n) }
+        ensures below { IfOk result (λ granted. All (λ block. block < self.old.held.capacity) (blocks_in granted.held)) }
         ensures left { IfOk result (λ granted. Loses self.old.held.runs self.new.held.runs granted.held) }
+        ensures order { AreFreeRuns self.new.held.capacity self.new.held.runs }
         ensures capacity { self.new.held.capacity ≡ self.old.held.capacity }
         ensures spare { self.old.spare ≤ self.new.spare }
         ensures err { OnErr result (self.new.held ≡ self.old.held) }
@@ -99,6 +102,7 @@ impl FreeRuns {
         requires apart { All (λ block. has_block self.old.held.runs block ≡ false) (blocks_in runs.now.held) }
         requires once { AllPairs (λ block other. block ≢ other) (blocks_in runs.now.held) }
         ensures ok { OnOk result (Gains self.old.held.runs self.new.held.runs runs.now.held) }
+        ensures order { AreFreeRuns self.new.held.capacity self.new.held.runs }
         ensures capacity { self.new.held.capacity ≡ self.old.held.capacity }
         ensures room { GrowsWithin self.old self.new (length runs.now.held) result }
     {
