@@ -61,3 +61,9 @@ and-second a true is = absurd (no a is)
     no true bad = cc
     no false bad = cc
 and-second a false is = refl
+
+pub and-turned : (a b : Bool) → (a && b) ≡ false → (b && a) ≡ false
+and-turned true true none = none
+and-turned true false none = refl
+and-turned false true none = refl
+and-turned false false none = refl

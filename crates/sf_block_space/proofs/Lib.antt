@@ -5,6 +5,7 @@ pub mod Given
 pub mod Losses
 pub mod Members
 pub mod Order
+pub mod Out
 pub mod Places
 pub mod Searches
 pub mod Steps

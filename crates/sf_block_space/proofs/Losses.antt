@@ -124,13 +124,13 @@ loses-more runs left less lost run first then =
           ∙ ap (λ x. has_block runs block && not x) (sym (has-append lost (run ∷ []) block));
       count = omega (arith, first.count, then.count, ap length both, length-append (blocks_in lost) (blocks_in (run ∷ [])));
       held = subst (All (λ block. has_block runs block ≡ true)) (sym both)
-        (All-append (λ block. has_block runs block ≡ true) (blocks_in lost) (blocks_in (run ∷ [])) first.held
-        (λ k d within.
+          (All-append (λ block. has_block runs block ≡ true) (blocks_in lost) (blocks_in (run ∷ [])) first.held
+          (λ k d within.
           let block = get_or (blocks_in (run ∷ [])) k d in
           and-first (has_block runs block) (has_block lost block) (sym (first.blocks block) ∙ then.held k d within)));
       once = subst (AllPairs (λ x y. x ≢ y)) (sym both)
-        (pairs-append (blocks_in lost) (blocks_in (run ∷ [])) first.once then.once
-        (λ k d within.
+          (pairs-append (blocks_in lost) (blocks_in (run ∷ [])) first.once then.once
+          (λ k d within.
           let block = get_or (blocks_in (run ∷ [])) k d in
           and-second (has_block runs block) (has_block lost block) (sym (first.blocks block) ∙ then.held k d within)));
       kept = λ capacity free. then.kept capacity (first.kept capacity free);

@@ -100,8 +100,8 @@ none-above from capacity [] block free less = refl
 none-above from capacity (run ∷ runs) block free less =
     has-cons run runs block
     ∙ none-of-both (is_among (blocks_in_run run) block) (has_block runs block)
-      (out-of-range run.first run.blocks block (inr (omega (arith, less, free.2))))
-      (none-above (run.first + run.blocks + 1) capacity runs block free.3 less)
+    (out-of-range run.first run.blocks block (inr (omega (arith, less, free.2))))
+    (none-above (run.first + run.blocks + 1) capacity runs block free.3 less)
 
 pub block-below : (capacity : ℕ) (runs : List Run) (block : ℕ) → AreFreeRuns capacity runs → has_block runs block ≡ true → block < capacity
 block-below capacity runs block free has = choose (cases_lt block capacity)
@@ -129,6 +129,7 @@ pairs-append xs ys first then apart i j d less within same = choose (cases_lt j 
   where
     size : length (xs ++ ys) ≡ length xs + length ys
     size = length-append xs ys
+
     choose : (j < length xs) ⊎ (length xs ≤ j) → (i < length xs) ⊎ (length xs ≤ i) → ⊥
     choose (inl left) _ =
         let at-i = get_or_append_left xs ys d i (omega (arith, less, left)) in
@@ -183,7 +184,7 @@ loses-from runs left lost before taken after runs-are left-are lost-are once apa
           ∙ sym (ap (λ (xs : List ℕ). has_block runs block && not (is_among xs block)) lost-are);
       count = omega (arith, ap length runs-are, ap length left-are, ap length lost-are, length-append before after, length-append before (taken ++ after), length-append taken after);
       held = subst (All (λ block. has_block runs block ≡ true)) (sym lost-are)
-        (λ k d less.
+          (λ k d less.
           let block = get_or taken k d in
           ap (list_any (nat_eq block)) runs-are
           ∙ list_any-append (nat_eq block) before (taken ++ after)

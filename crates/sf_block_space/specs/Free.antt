@@ -1,5 +1,5 @@
 -- The free blocks of a store, as runs.
-use Rattle.std.specs.Prelude.{◌≡◌, ℕ, ◌+◌, ◌≤◌, ◌<◌, List, [], ◌∷◌, Bool, ◌||◌, length, All, nat_eq}
+use Rattle.std.specs.Prelude.{◌≡◌, ℕ, ◌+◌, ◌≤◌, ◌<◌, List, [], ◌∷◌, Bool, false, ◌||◌, ◌&&◌, ◌≢◌, length, All, AllPairs, nat_eq}
 use Rattle.std.specs.List.{list_any}
 use Rattle.sf_types.specs.declared.place.Run.{Run}
 use Rattle.sf_types.specs.Placings.{blocks_in}
@@ -24,6 +24,16 @@ AreFreeRuns capacity runs = AreFreeRunsFrom 0 capacity runs
 -- Whether a block stands in some runs.
 abbrev pub has_block : List Run → ℕ → Bool
 has_block runs block = list_any (nat_eq block) (blocks_in runs)
+
+-- Blocks that are out: each is below the capacity, none of them is free, and none is named twice.
+pub record AreOut (space : FreeSpace) (blocks : List ℕ) : Type 0 where
+  pub below : All (λ block. block < space.capacity) blocks
+  pub apart : All (λ block. has_block space.runs block ≡ false) blocks
+  pub once : AllPairs (λ block other. block ≢ other) blocks
+
+-- No block stands in both.
+abbrev pub AreApart : List Run → List Run → Type 0
+AreApart runs others = (block : ℕ) → (has_block runs block && has_block others block) ≡ false
 
 -- Runs with the blocks of some others beside their own, which were in none of them.
 pub record Gains (runs more gained : List Run) : Type 0 where

@@ -3,7 +3,7 @@ ghost use Rattle.std.specs.Prelude.{◌≡◌, ◌≤◌, ◌<◌, length, All, 
 ghost use Rattle.std.specs.List.{range_with_len};
 ghost use Rattle.sf_types.specs.Placings.{blocks_in};
 ghost use Rattle.sf_types.specs.Rooms.{MakesRoom, GrowsWithin};
-ghost use Rattle.sf_block_space.specs.Free.{AreFreeRuns, has_block, Gains};
+ghost use Rattle.sf_block_space.specs.Free.{AreFreeRuns, AreOut, Gains};
 ghost use Rattle.sf_block_space.specs.Grants.{IsGrant, Loses};
 
 use crate::grants::{room_for, take_runs};
@@ -81,7 +81,7 @@ impl FreeRuns {
         requires { n ≤ length (blocks_in self.old.held.runs) }
         ensures granted { IfOk result (λ granted. IsGrant self.old.held.runs n granted.held) }
         ensures count { IfOk result (λ granted. length (blocks_in granted.held) ≡ n) }
-        ensures below { IfOk result (λ granted. All (λ block. block < self.old.held.capacity) (blocks_in granted.held)) }
+        ensures out { IfOk result (λ granted. AreOut self.new.held (blocks_in granted.held)) }
         ensures left { IfOk result (λ granted. Loses self.old.held.runs self.new.held.runs granted.held) }
         ensures order { AreFreeRuns self.new.held.capacity self.new.held.runs }
         ensures capacity { self.new.held.capacity ≡ self.old.held.capacity }
@@ -98,9 +98,7 @@ impl FreeRuns {
     /// Gives back blocks, each below the capacity, none of them free and none named twice. They are free then, joined with
     /// the free runs that they touch. Runs of no blocks change nothing. After want of memory nothing has changed.
     pub fn give_back(&mut self, runs: &Runs) -> Mem<()>
-        requires below { All (λ block. block < self.old.held.capacity) (blocks_in runs.now.held) }
-        requires apart { All (λ block. has_block self.old.held.runs block ≡ false) (blocks_in runs.now.held) }
-        requires once { AllPairs (λ block other. block ≢ other) (blocks_in runs.now.held) }
+        requires { AreOut self.old.held (blocks_in runs.now.held) }
         ensures ok { OnOk result (Gains self.old.held.runs self.new.held.runs runs.now.held) }
         ensures order { AreFreeRuns self.new.held.capacity self.new.held.runs }
         ensures capacity { self.new.held.capacity ≡ self.old.held.capacity }
