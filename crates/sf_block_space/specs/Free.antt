@@ -35,7 +35,8 @@ pub record AreOut (space : FreeSpace) (blocks : List ℕ) : Type 0 where
 abbrev pub AreApart : List Run → List Run → Type 0
 AreApart runs others = (block : ℕ) → (has_block runs block && has_block others block) ≡ false
 
--- Runs with the blocks of some others beside their own, which were in none of them.
+-- Runs with the blocks of some others beside their own. Where they were the maximal runs of their blocks, they are so
+-- again.
 pub record Gains (runs more gained : List Run) : Type 0 where
   pub blocks : (block : ℕ) → has_block more block ≡ (has_block runs block || has_block gained block)
   pub count : length (blocks_in more) ≡ length (blocks_in runs) + length (blocks_in gained)

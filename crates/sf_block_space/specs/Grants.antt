@@ -44,7 +44,8 @@ IsTaken runs n taken left = (at : ℕ) × (run : Run) × IsNext runs n at run ×
     ((run.blocks ≤ n) × (taken ≡ run) × (left ≡ remove runs at))
     ⊎ ((n < run.blocks) × (taken ≡ front_of run n) × (left ≡ slice_set runs at (rest_of run n))))
 
--- Runs without the blocks of some others, which were in them, each once.
+-- Runs without the blocks of some others, which were in them, each once. Where they were the maximal runs of their blocks,
+-- they are so again.
 pub record Loses (runs left lost : List Run) : Type 0 where
   pub blocks : (block : ℕ) → has_block left block ≡ (has_block runs block && not (has_block lost block))
   pub count : length (blocks_in runs) ≡ length (blocks_in left) + length (blocks_in lost)

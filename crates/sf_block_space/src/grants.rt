@@ -1,5 +1,5 @@
 //! Which free runs a grant takes.
-ghost use Rattle.std.specs.Prelude.{◌≡◌, ◌+◌, ◌-◌, ◌≤◌, ◌<◌, ◌^◌, ◌++◌, ◌∷◌, [], List, length, All, min, Some, slice_get, vec_len, vec_capacity};
+ghost use Rattle.std.specs.Prelude.{ℕ, ◌≡◌, ◌+◌, ◌-◌, ◌≤◌, ◌<◌, ◌^◌, ◌∷◌, [], length, min, Some, slice_get, vec_len, vec_capacity};
 ghost use Rattle.sf_types.specs.declared.place.Run.{Run as RunView};
 ghost use Rattle.sf_types.specs.Placings.{blocks_in};
 ghost use Rattle.sf_block_space.specs.Free.{AreFreeRuns};
@@ -54,7 +54,9 @@ fn take_run(runs: &mut Vec<Run>, n: u64) -> Run
 
 // Room for the runs of a grant of n blocks, which the runs have: for one where some run has as many blocks.
 pub fn room_for(runs: &[Run], n: u64) -> u64
-    ensures { IsRoomFor runs.now n result }
+    ensures room { IsRoomFor runs.now n result }
+    ensures most { result ≤ min n (length runs.now) }
+    ensures fit { (at : ℕ) → (run : RunView) → slice_get runs.now at ≡ Some run → n ≤ run.blocks → result ≤ 1 }
 {
     let most = if runs.iter().any(|run| u64::from(run.blocks) >= n) {
         1

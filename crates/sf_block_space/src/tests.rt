@@ -1,4 +1,4 @@
-ghost use Rattle.std.specs.Prelude.{◌≡◌, OnOk, IfOk};
+ghost use Rattle.std.specs.Prelude.{OnOk};
 ghost use Rattle.sf_types.specs.Placings.{blocks_in};
 ghost use Rattle.sf_block_space.specs.Free.{AreOut, AreApart};
 
