@@ -7,6 +7,7 @@ pub mod Members
 pub mod Order
 pub mod Out
 pub mod Places
+pub mod Same
 pub mod Searches
 pub mod Steps
 pub mod Whole
