@@ -27,7 +27,7 @@ loop-rest-preserved c =
       enough = omega (arith, old.enough, took.left.count, took.size, same, single, size);
       completes = λ more grant.
           rw (pushed, append_assoc held (run ∷ []) more)
-          (old.completes (run ∷ more) (grant-step runs rest run left more c.loop-rest-test.true took.taken (subst (λ k. IsGrant left (rest - k) more) same grant)));
+          (old.completes (run ∷ more) (grant-step runs rest run left more (omega (arith, c.loop-rest-test.true)) took.taken (subst (λ k. IsGrant left (rest - k) more) same grant)));
       count = omega (
         arith,
         old.count,
