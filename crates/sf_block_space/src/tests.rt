@@ -65,6 +65,7 @@ fn give_both(space: &mut FreeRuns, first: &Runs, then: &Runs) -> Mem<()>
 // them are out.
 fn space_of(alloc: Global, pieces: &[(u64, Fate)]) -> Mem<FreeRuns> {
     let mut space = FreeRuns::all(alloc, 64)?;
+    space.make_room(8)?;
     let mut first = Runs::new(alloc);
     let mut then = Runs::new(alloc);
     for (n, fate) in pieces {
@@ -100,93 +101,128 @@ fn check(rt: &impl Abort, granted: &Runs, wanted: &[(u32, u32)], row: usize) {
 }
 
 // By *Grant*, worked out by hand.
+const ROWS: [Row<'static>; 10] = [
+    // first fit, though a later run fits exactly
+    (
+        &[
+            (10, Fate::First),
+            (10, Fate::Kept),
+            (4, Fate::First),
+            (16, Fate::Kept),
+            (20, Fate::First),
+        ],
+        4,
+        &[(0, 4)],
+        &[(40, 20), (4, 6), (20, 4)],
+    ),
+    // an exact fit between a shorter run and a longer one
+    (
+        &[
+            (3, Fate::First),
+            (17, Fate::Kept),
+            (4, Fate::First),
+            (16, Fate::Kept),
+            (20, Fate::First),
+        ],
+        4,
+        &[(20, 4)],
+        &[(40, 20), (0, 3)],
+    ),
+    // two longest runs of the same length
+    (
+        &[
+            (2, Fate::First),
+            (8, Fate::Kept),
+            (5, Fate::First),
+            (5, Fate::Kept),
+            (5, Fate::First),
+            (5, Fate::Kept),
+            (1, Fate::First),
+        ],
+        6,
+        &[(10, 5), (0, 1)],
+        &[(20, 5), (1, 1), (30, 1)],
+    ),
+    // three runs
+    (
+        &[
+            (4, Fate::First),
+            (6, Fate::Kept),
+            (6, Fate::First),
+            (4, Fate::Kept),
+            (5, Fate::First),
+            (5, Fate::Kept),
+            (2, Fate::First),
+        ],
+        13,
+        &[(10, 6), (20, 5), (0, 2)],
+        &[(2, 2), (30, 2)],
+    ),
+    // all
+    (
+        &[
+            (2, Fate::First),
+            (8, Fate::Kept),
+            (3, Fate::First),
+            (7, Fate::Kept),
+            (3, Fate::First),
+        ],
+        8,
+        &[(10, 3), (20, 3), (0, 2)],
+        &[],
+    ),
+    // none
+    (
+        &[(2, Fate::First), (8, Fate::Kept), (3, Fate::First)],
+        0,
+        &[],
+        &[(10, 3), (0, 2)],
+    ),
+    // the whole space
+    (&[(64, Fate::First)], 64, &[(0, 64)], &[]),
+    // joined with the runs on both sides
+    (
+        &[
+            (4, Fate::First),
+            (2, Fate::Then),
+            (4, Fate::First),
+            (6, Fate::Kept),
+            (3, Fate::First),
+        ],
+        10,
+        &[(0, 10)],
+        &[(16, 3)],
+    ),
+    // joined with the run before, and with the run behind
+    (
+        &[
+            (4, Fate::First),
+            (2, Fate::Then),
+            (4, Fate::Kept),
+            (3, Fate::Then),
+            (5, Fate::First),
+        ],
+        8,
+        &[(10, 8)],
+        &[(0, 6)],
+    ),
+    // joined with none
+    (
+        &[
+            (2, Fate::Kept),
+            (3, Fate::Then),
+            (2, Fate::Kept),
+            (5, Fate::First),
+        ],
+        6,
+        &[(7, 5), (2, 1)],
+        &[(3, 2)],
+    ),
+];
+
 #[test]
 fn grants_by_the_rule(rt: HostRuntime) -> Result<(), Fail> {
-    use Fate::{First, Kept, Then};
-    let rows: [Row; 10] = [
-        // first fit, though a later run fits exactly
-        (
-            &[(10, First), (10, Kept), (4, First), (16, Kept), (20, First)],
-            4,
-            &[(0, 4)],
-            &[(40, 20), (4, 6), (20, 4)],
-        ),
-        // an exact fit between a shorter run and a longer one
-        (
-            &[(3, First), (17, Kept), (4, First), (16, Kept), (20, First)],
-            4,
-            &[(20, 4)],
-            &[(40, 20), (0, 3)],
-        ),
-        // two longest runs of the same length
-        (
-            &[
-                (2, First),
-                (8, Kept),
-                (5, First),
-                (5, Kept),
-                (5, First),
-                (5, Kept),
-                (1, First),
-            ],
-            6,
-            &[(10, 5), (0, 1)],
-            &[(20, 5), (1, 1), (30, 1)],
-        ),
-        // three runs
-        (
-            &[
-                (4, First),
-                (6, Kept),
-                (6, First),
-                (4, Kept),
-                (5, First),
-                (5, Kept),
-                (2, First),
-            ],
-            13,
-            &[(10, 6), (20, 5), (0, 2)],
-            &[(2, 2), (30, 2)],
-        ),
-        // all
-        (
-            &[(2, First), (8, Kept), (3, First), (7, Kept), (3, First)],
-            8,
-            &[(10, 3), (20, 3), (0, 2)],
-            &[],
-        ),
-        // none
-        (
-            &[(2, First), (8, Kept), (3, First)],
-            0,
-            &[],
-            &[(10, 3), (0, 2)],
-        ),
-        // the whole space
-        (&[(64, First)], 64, &[(0, 64)], &[]),
-        // joined with the runs on both sides
-        (
-            &[(4, First), (2, Then), (4, First), (6, Kept), (3, First)],
-            10,
-            &[(0, 10)],
-            &[(16, 3)],
-        ),
-        // joined with the run before, and with the run behind
-        (
-            &[(4, First), (2, Then), (4, Kept), (3, Then), (5, First)],
-            8,
-            &[(10, 8)],
-            &[(0, 6)],
-        ),
-        // joined with none
-        (
-            &[(2, Kept), (3, Then), (2, Kept), (5, First)],
-            6,
-            &[(7, 5), (2, 1)],
-            &[(3, 2)],
-        ),
-    ];
-    for (row, (pieces, n, wanted, others)) in rows.iter().enumerate() {
+    for (row, (pieces, n, wanted, others)) in ROWS.iter().enumerate() {
         let mut space = space_of(rt.alloc(), pieces).ok().ok_or("memory")?;
         let granted = grant(&mut space, *n).ok().ok_or("memory")?;
         check(&rt, &granted, wanted, row);
