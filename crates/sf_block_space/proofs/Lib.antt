@@ -1,0 +1,13 @@
+pub mod Bools
+pub mod Choices
+pub mod Gaps
+pub mod Given
+pub mod Losses
+pub mod Members
+pub mod Order
+pub mod Out
+pub mod Places
+pub mod Same
+pub mod Searches
+pub mod Steps
+pub mod Whole

@@ -1,0 +1,73 @@
+-- Runs in their order.
+use Rattle.std.proofs.Common.{◌≡◌, ℕ, zero, suc, ◌+◌, ◌-◌, ◌≤◌, ◌<◌, List, [], ◌∷◌, ◌++◌, length, take, drop, get_or, refl, sym, ap, ◌∙◌, arith}
+use Rattle.std.proofs.lemmas.List.{length-append, take-append-drop}
+use Rattle.std.proofs.lemmas.List.FromFn.{length-range_with_len}
+use Rattle.std.proofs.Math.Seq.{drop-cons}
+use Rattle.sf_types.specs.declared.place.Run.{Run}
+use Rattle.sf_types.specs.Placings.{blocks_in, blocks_in_run}
+use Rattle.sf_block_space.specs.Free.{AreFreeRunsFrom, BeginsFrom, past}
+
+abbrev pub no_run : Run
+no_run = record { first = 0; blocks = 0 }
+
+-- they begin where the first of them does, or before
+pub begin : (from to capacity : ℕ) (runs : List Run) → AreFreeRunsFrom from capacity runs → BeginsFrom to runs → AreFreeRunsFrom to capacity runs
+begin from to capacity [] free begins = tt
+begin from to capacity (run ∷ runs) free begins = (begins, free.1, free.2, free.3)
+
+pub begin-before : (from to capacity : ℕ) (runs : List Run) → to ≤ from → AreFreeRunsFrom from capacity runs → AreFreeRunsFrom to capacity runs
+begin-before from to capacity [] before free = tt
+begin-before from to capacity (run ∷ runs) before free = (omega (arith, before, free.0), free.1, free.2, free.3)
+
+pub within-more : (from capacity more : ℕ) (runs : List Run) → capacity ≤ more → AreFreeRunsFrom from capacity runs → AreFreeRunsFrom from more runs
+within-more from capacity more [] within free = tt
+within-more from capacity more (run ∷ runs) within free =
+    (free.0, free.1, omega (arith, within, free.2), within-more (run.first + run.blocks + 1) capacity more runs within free.3)
+
+-- the runs behind some others
+pub behind : (from capacity : ℕ) (before after : List Run) → AreFreeRunsFrom from capacity (before ++ after) → AreFreeRunsFrom (past from before) capacity after
+behind from capacity [] after free = free
+behind from capacity (run ∷ before) after free = behind (run.first + run.blocks + 1) capacity before after free.3
+
+-- other runs behind the same ones
+pub replaced : (from capacity : ℕ) (before after others : List Run) → AreFreeRunsFrom from capacity (before ++ after) → AreFreeRunsFrom (past from before) capacity others → AreFreeRunsFrom from capacity (before ++ others)
+replaced from capacity [] after others free others-free = others-free
+replaced from capacity (run ∷ before) after others free others-free =
+    (free.0, free.1, free.2, replaced (run.first + run.blocks + 1) capacity before after others free.3 others-free)
+
+pub past-last : (from : ℕ) (before : List Run) (run : Run) → past from (before ++ run ∷ []) ≡ run.first + run.blocks + 1
+past-last from [] run = refl
+past-last from (other ∷ before) run = past-last (other.first + other.blocks + 1) before run
+
+-- a run begins behind all before it
+pub first-behind : (from capacity : ℕ) (before : List Run) (run : Run) (after : List Run) → AreFreeRunsFrom from capacity (before ++ run ∷ after) → from ≤ run.first
+first-behind from capacity [] run after free = free.0
+first-behind from capacity (other ∷ before) run after free =
+    omega (arith, free.0, first-behind (other.first + other.blocks + 1) capacity before run after free.3)
+
+-- they have no more blocks than there is room
+pub count-within : (from capacity : ℕ) (runs : List Run) → AreFreeRunsFrom from capacity runs → length (blocks_in runs) ≤ capacity - from
+count-within from capacity [] free = omega arith
+count-within from capacity (run ∷ runs) free =
+    omega (
+      arith,
+      free.0,
+      free.2,
+      count-within (run.first + run.blocks + 1) capacity runs free.3,
+      length-append (blocks_in_run run) (blocks_in runs),
+      length-range_with_len run.first run.blocks,
+    )
+
+-- a run has a block and ends within the capacity
+pub run-within : (from capacity : ℕ) (runs : List Run) (at : ℕ) (d : Run) → AreFreeRunsFrom from capacity runs → at < length runs → (1 ≤ (get_or runs at d).blocks) × ((get_or runs at d).first + (get_or runs at d).blocks ≤ capacity)
+run-within from capacity [] at d free less = absurd (omega (arith, less))
+run-within from capacity (run ∷ runs) zero d free less = (free.1, free.2)
+run-within from capacity (run ∷ runs) (suc at) d free less = run-within (run.first + run.blocks + 1) capacity runs at d free.3 (omega (arith, less))
+
+-- a list in two parts, and the item between them
+pub parts-at : (runs : List Run) (at : ℕ) (d : Run) → at < length runs → runs ≡ take at runs ++ get_or runs at d ∷ drop (suc at) runs
+parts-at runs at d less = sym (take-append-drop at runs) ∙ ap (λ (xs : List Run). take at runs ++ xs) (drop-cons runs at d less)
+
+pub some-run : (runs : List Run) → 1 ≤ length (blocks_in runs) → 1 ≤ length runs
+some-run [] some = some
+some-run (run ∷ runs) some = omega arith

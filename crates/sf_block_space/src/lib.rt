@@ -1,0 +1,11 @@
+//! The free blocks of a store, as runs.
+#![tactic(auto)]
+
+mod free_runs;
+mod grants;
+mod returns;
+
+pub use free_runs::FreeRuns;
+
+#[cfg(test)]
+mod tests;
