@@ -1,0 +1,5 @@
+mod HashMaps
+mod Sums
+mod ByBirth
+mod ByHolder
+mod CountLaws

@@ -1,0 +1,13 @@
+use Rattle.std.proofs.Common.{◌≡◌, ◌∙◌, ap, sym, rules, arith}
+use Rattle.std.specs.FinMap as fin
+use Rattle.std.specs.HashMap.{spare}
+use Rattle.sf_lifetimes.proofs.ByHolder.{reordered}
+use Rattle.sf_lifetimes.proofs.holder_map.HolderMap.make_room.Goals as goal
+
+pub returns : goal.returns
+returns c = record {
+  done = search rules;
+  held = reordered c.self.inside.entries c.reserve.new.self c.reserve.ensures.entries.2 ∙ ap (λ v. v.held) c.self.view_is;
+  room = search rules;
+  kept = omega (arith, c.reserve.ensures.spare, ap (λ v. v.spare) c.self.view_is);
+}
