@@ -3,7 +3,9 @@ use Rattle.std.proofs.Common.{◌≡◌, ℕ, ◌+◌, ◌-◌, ◌*◌, ◌^◌
 use Rattle.std.specs.Prelude.{◌==◌, ◌||◌, ◌≢◌, nat_le, T, is_some}
 use Rattle.std.specs.List.{list_any, sum_by, count_by, filter}
 use Rattle.std.specs.Ordering.{nat_cmp, eq_by_cmp}
-use Rattle.std.specs.Cmp.{nat_cmp_total, unsigned_ties}
+use Rattle.std.specs.Cmp.{nat_cmp_total, unsigned_ties, unsigned_Decides}
+use Rattle.std.specs.Prelude.{AllPairs}
+use Rattle.std.proofs.lemmas.Map.Made.{IsDistinct-from_AllPairs}
 use Rattle.std.specs.FinMap as fin
 use Rattle.std.specs.FinMap.{nat_cmp-IsAntisymmetric, same_map, get-insert, get-remove, get-empty, empty, entries, len-entries, len-empty}
 use Rattle.sf_types.specs.declared.place.Run.{Run}
@@ -21,23 +23,16 @@ use Rattle.std.proofs.lemmas.List.Sums.{sum_by-cons, sum_by-append, sum_by-le-su
 use Rattle.sf_types.specs.Births.{IsBelowAll, IsRising}
 use Rattle.std.proofs.lemmas.Map.Steps.{length-le_from_distinct_below}
 use Rattle.std.proofs.lemmas.Bool.Decides.{nat_tests}
-use Rattle.sf_lifetimes.proofs.Sums.{weight, sum-insert, sum-remove}
+use Rattle.sf_lifetimes.proofs.Sums.{weight, sum-insert, sum-remove, no_values}
 
-no_length : {A : Type 0} (xs : List A) → length xs ≡ 0 → xs ≡ []
-no_length [] is = refl
-no_length (x ∷ xs) is = absurd (omega (arith, is))
-
-values-empty : fin.values (empty {X = Counted} {R = nat_cmp}) ≡ []
-values-empty = ap (map (λ (e : ℕ × Counted). e.1)) (no_length (entries empty) (sym (len-entries (empty {X = Counted} {R = nat_cmp})) ∙ len-empty nat_cmp Counted))
-
-not_some : (c : Counted) → None ≡ Some c → ⊥
+pub not_some : (c : Counted) → None ≡ Some c → ⊥
 not_some c is = absurd cc
 
 pub none_counted : IsCounted empty 0
 none_counted = record {
   sizes = λ birth c is. absurd (not_some c (sym (get-empty nat_cmp birth) ∙ is));
-  once = λ block. omega (arith, ap (sum_by (times block)) values-empty);
-  live = sym (ap (sum_by live_in) values-empty);
+  once = λ block. omega (arith, ap (sum_by (times block)) (no_values nat_cmp));
+  live = sym (ap (sum_by live_in) (no_values nat_cmp));
 }
 
 -- numbers that stand once each, below a bound, are no more than it
@@ -179,12 +174,13 @@ taken_counted m live b c one is counted =
       live = omega (arith, left live_in, ap (weight live_in) is, counted.live, now, own);
     })
 
-length-blocks : (m : CountedMap) (runs : List Run) → IsFree m runs → (x : ℕ) → count_by (λ y. x == y) (blocks_in runs) ≤ cond (nat_lt x (2 ^ 32)) 1 0
-length-blocks m runs free x = omega (arith, free x)
-
 -- free runs have no more than 2^32 blocks
 pub few_blocks : (m : CountedMap) (runs : List Run) → IsFree m runs → length (blocks_in runs) ≤ 2 ^ 32
-few_blocks m runs free = few_numbers (blocks_in runs) (2 ^ 32) (length-blocks m runs free)
+few_blocks m runs free = few_numbers (blocks_in runs) (2 ^ 32) (λ x. (free x).0)
+
+both_fit : (t s most : ℕ) → t ≤ most → (1 ≤ t → s ≡ 0) → s ≤ most → s + t ≤ most
+both_fit zero s most le none fits = omega (arith, fits)
+both_fit (suc t) s most le none fits = omega (arith, le, none (omega arith))
 
 -- a new place that nobody holds
 pub placed_counted : (m : CountedMap) (live b : ℕ) (runs : List Run) → fin.get m b ≡ None → IsFree m runs → IsCounted m live → IsCounted (fin.insert m b (unheld_place runs)) live
@@ -196,9 +192,40 @@ placed_counted m live b runs none free counted =
         | true ↦ λ now. subst (λ (x : Counted). x.blocks ≡ length (blocks_in x.runs)) (some_is d e now) refl
         | false ↦ λ now. counted.sizes q e now
       ] (sym (changed_at (λ _. Some d) m b d refl q) ∙ at);
-      once = λ block. omega (arith, free block, sum-insert nat_cmp nat_cmp_total (times block) m b d, left (times block));
+      once = λ block. omega (arith, both_fit (times block d) (sum_by (times block) (fin.values m)) (cond (nat_lt block (2 ^ 32)) 1 0) (free block).0 (free block).1 (counted.once block), sum-insert nat_cmp nat_cmp_total (times block) m b d, left (times block));
       live = omega (arith, counted.live, sum-insert nat_cmp nat_cmp_total live_in m b d, left live_in);
     }
+
+-- ---- blocks that stand in a list
+pub none_counted_in : (q : ℕ) (xs : List ℕ) → has_birth xs q ≡ false → count_by (λ y. q == y) xs ≡ 0
+none_counted_in q [] none = refl
+none_counted_in q (x ∷ xs) none =
+    elim (q == x) as (λ t. (q == x) ≡ t → (t || has_birth xs q) ≡ false → count_by (λ y. q == y) (x ∷ xs) ≡ 0) [
+      | true ↦ λ t bad. absurd cc
+      | false ↦ λ t rest. omega (arith, sum_by-cons (λ y. cond (q == y) 1 0) x xs, ap {B = ℕ} (λ b. cond b 1 0) t, none_counted_in q xs rest)
+    ] refl none
+
+pub stands_in : (q : ℕ) (xs : List ℕ) → 1 ≤ count_by (λ y. q == y) xs → has_birth xs q ≡ true
+stands_in q xs some = elim (has_birth xs q) as (λ t. has_birth xs q ≡ t → t ≡ true) [
+    | true ↦ λ _. refl
+    | false ↦ λ none. absurd (omega (arith, some, none_counted_in q xs none))
+  ] refl
+
+others : (x : ℕ) (ys : List ℕ) → AllByRecursion (λ y. eqb x y ≡ false) ys → count_by (λ y. x == y) ys ≡ 0
+others x [] none = refl
+others x (y ∷ ys) none = omega (arith, sum_by-cons (λ y. cond (x == y) 1 0) y ys, ap {B = ℕ} (λ b. cond b 1 0) none.0, others x ys none.1)
+
+counted_once : (xs : List ℕ) → IsDistinct eqb xs → (q : ℕ) → count_by (λ y. q == y) xs ≤ 1
+unfolding IsDistinct
+counted_once [] distinct q = omega arith
+counted_once (x ∷ xs) distinct q =
+    elim (q == x) as (λ t. (q == x) ≡ t → count_by (λ y. q == y) (x ∷ xs) ≤ 1) [
+      | true ↦ λ t. omega (arith, sum_by-cons (λ y. cond (q == y) 1 0) x xs, ap {B = ℕ} (λ b. cond b 1 0) t, ap (λ z. count_by (λ y. z == y) xs) (same_number q x t), others x xs distinct.0)
+      | false ↦ λ t. omega (arith, sum_by-cons (λ y. cond (q == y) 1 0) x xs, ap {B = ℕ} (λ b. cond b 1 0) t, counted_once xs distinct.1 q)
+    ] refl
+
+pub named_once : (xs : List ℕ) → AllPairs (λ x y. x ≢ y) xs → (q : ℕ) → count_by (λ y. q == y) xs ≤ 1
+named_once xs apart = counted_once xs (IsDistinct-from_AllPairs unsigned_Decides xs apart)
 
 -- ---- one change after another
 or_at : (a b : Bool) (x y : Option Counted) → (b ≡ true → a ≡ false) → cond b x (cond a x y) ≡ cond (a || b) x y

@@ -3,3 +3,5 @@ mod Sums
 mod ByBirth
 mod ByHolder
 mod CountLaws
+mod ExchangeLaws
+mod LedgerLaws

@@ -12,11 +12,11 @@ use Rattle.std.specs.FinMap.{FinMap, IsAntisymmetric, same_map, entries, entries
 use Rattle.std.proofs.lemmas.Cmp.{tied_itself}
 use Rattle.std.specs.FinMap.Entries.{find, put, is_sorted, below_all, by_order}
 
-first : (a b : Bool) → T (a && b) → T a
+pub first : (a b : Bool) → T (a && b) → T a
 first true b p = tt
 first false b p = p
 
-second : (a b : Bool) → T (a && b) → T b
+pub second : (a b : Bool) → T (a && b) → T b
 second true b p = p
 second false b p = absurd p
 
@@ -29,7 +29,7 @@ less Less p = refl
 less Equal p = absurd p
 less Greater p = absurd p
 
-equal : (r : Ordering) → is_eq r ≡ true → r ≡ Equal
+pub equal : (r : Ordering) → is_eq r ≡ true → r ≡ Equal
 equal Less p = absurd cc
 equal Equal p = refl
 equal Greater p = absurd cc
@@ -44,7 +44,7 @@ module _ {K X : Type 0} (R : K → K → Ordering) (o : IsTotalOrder R) where
   below-less x y [] p h = tt
   below-less x y (e ∷ es) p h = both _ _ (subst (λ r. T (is_lt r)) (sym (o.trans x y e.0 p (less _ (first _ _ h)))) tt) (below-less x y es p (second _ _ h))
 
-  below-tied : (x y : K) (es : List (K × X)) → R x y ≡ Equal → T (below_all R y es) → T (below_all R x es)
+  pub below-tied : (x y : K) (es : List (K × X)) → R x y ≡ Equal → T (below_all R y es) → T (below_all R x es)
   below-tied x y [] p h = tt
   below-tied x y (e ∷ es) p h = both _ _ (subst (λ r. T (is_lt r)) (sym (o.congr x y e.0 p)) (first _ _ h)) (below-tied x y es p (second _ _ h))
 
@@ -101,3 +101,14 @@ module _ {K X : Type 0} (R : K → K → Ordering) (o : IsTotalOrder R) (same : 
         | None ↦ λ is. omega (arith, ap (λ n. sum_by f (fin.values n)) (nothing-lost m k is))
         | Some v ↦ λ is. omega (arith, ap (λ n. sum_by f (fin.values n)) (put-back m k v is), sum-insert R o f (fin.remove m k) k v, ap (weight f) (gone m k))
       ] refl
+
+no_length : {A : Type 0} (xs : List A) → length xs ≡ 0 → xs ≡ []
+no_length [] is = refl
+no_length (x ∷ xs) is = absurd (omega (arith, is))
+
+-- the empty map has no entries and no values
+pub no_entries : {K X : Type 0} (R : K → K → Ordering) → entries (fin.empty {X = X} {R = R}) ≡ []
+no_entries {X = X} R = no_length (entries fin.empty) (sym (fin.len-entries (fin.empty {X = X} {R = R})) ∙ fin.len-empty R X)
+
+pub no_values : {K X : Type 0} (R : K → K → Ordering) → fin.values (fin.empty {X = X} {R = R}) ≡ []
+no_values {K} {X} R = ap (map (λ (e : K × X). e.1)) (no_entries R)

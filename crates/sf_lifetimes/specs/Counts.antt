@@ -83,4 +83,15 @@ unheld_place runs = record { runs = runs; blocks = length (blocks_in runs); hold
 
 -- Runs whose blocks are below 2^32, stand in no place, and are named once each.
 abbrev pub IsFree : CountedMap → List Run → Type 0
-IsFree m runs = (block : ℕ) → times block (unheld_place runs) + sum_by (times block) (fin.values m) ≤ cond (nat_lt block (2 ^ 32)) 1 0
+IsFree m runs =
+    (block : ℕ) → (times block (unheld_place runs) ≤ cond (nat_lt block (2 ^ 32)) 1 0)
+    × (1 ≤ times block (unheld_place runs) → sum_by (times block) (fin.values m) ≡ 0)
+
+-- The births of a list that one holder holds once these others are held once more.
+abbrev pub left_over : CountedMap → List ℕ → List ℕ → List ℕ
+left_over m more births = filter (λ b. (holders_in (fin.get m b) + cond (has_birth more b) 1 0) == 1) births
+
+-- Some births have one holder more, and then others one fewer.
+abbrev pub AreExchanged : CountedMap → List ℕ → List ℕ → CountedMap → Type 0
+AreExchanged m old new n =
+    (q : ℕ) → fin.get n q ≡ cond (has_birth old q) (released (cond (has_birth new q) (raised (fin.get m q)) (fin.get m q))) (cond (has_birth new q) (raised (fin.get m q)) (fin.get m q))

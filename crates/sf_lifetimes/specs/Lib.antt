@@ -1,3 +1,5 @@
-pub mod Holders
-pub mod Counts
 pub mod Codes
+pub mod Counted
+pub mod Counts
+pub mod Holders
+pub mod Ledgers

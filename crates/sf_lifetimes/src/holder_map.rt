@@ -1,8 +1,10 @@
 //! The births of each holder.
-ghost use Rattle.std.specs.Prelude.{◌≡◌, ◌≤◌, ◌<◌, ◌^◌, OnOk};
+ghost use Rattle.std.specs.Prelude.{◌≡◌, ◌≤◌, ◌<◌, ◌^◌, ◌+◌, length, OnOk};
 ghost use Rattle.std.specs.Option.{option_copied};
 ghost use Rattle.std.specs.FinMap as fin;
+ghost use Rattle.sf_types.specs.Births.{IsRising};
 ghost use Rattle.sf_types.specs.Rooms.{MakesRoom, GrowsWithin};
+ghost use Rattle.sf_lifetimes.specs.Ledgers.{held_by, with_births};
 
 use crate::holder::Holder;
 use sf_types::{Births, Mem};
@@ -82,5 +84,32 @@ impl HolderMap {
         ensures few { result < 2 ^ 63 }
     {
         self.entries.len()
+    }
+
+    // The births of a holder, none where it has no entry.
+    pub fn births_of(&self, holder: &Holder) -> &[u128]
+        ensures births { result.now ≡ held_by self.now.held holder.now }
+        ensures rising { IsRising result.now }
+    {
+        match self.get(holder) {
+            Some(births) => births.as_slice(),
+            None => &[],
+        }
+    }
+
+    // Puts what a holder holds in place of what it held. It takes no memory.
+    pub fn replace(&mut self, holder: Holder, births: Births)
+        requires { 1 ≤ length births → 1 ≤ self.old.spare }
+        ensures held { self.new.held ≡ with_births self.old.held holder births }
+        ensures spare { self.old.spare ≤ self.new.spare + length births }
+    {
+        if births.as_slice().is_empty() {
+            self.remove(&holder);
+        } else {
+            match self.insert(holder, births) {
+                Ok(()) => {}
+                Err(_) => unreachable!(),
+            }
+        }
     }
 }

@@ -1,8 +1,11 @@
 //! The contents that holders hold, by counts.
 #![tactic(auto)]
 
+mod ledger;
 mod place_map;
+mod exchange;
 mod holder;
 mod holder_map;
 
+pub use ledger::Ledger;
 pub use holder::{Holder, HolderList};

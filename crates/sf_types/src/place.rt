@@ -1,6 +1,6 @@
 //! Where contents stand, and what rows hold at the end.
 ghost use Rattle.std.specs.Prelude.{◌≡◌, ◌<◌, ◌++◌, ◌∷◌, [], OnOk, OnErr, IfOk, length};
-ghost use Rattle.sf_types.specs.Births.{IsAboveAll};
+ghost use Rattle.sf_types.specs.Births.{IsAboveAll, IsRising};
 ghost use Rattle.sha2.specs.Sha256.{sha256};
 
 use crate::copy::TryCopy;
@@ -67,7 +67,8 @@ impl Births {
 
     /// The births.
     pub fn as_slice(&self) -> &[u128]
-        ensures { result.now ≡ self.now }
+        ensures births { result.now ≡ self.now }
+        ensures rising { IsRising self.now }
     {
         self.births.as_slice()
     }
