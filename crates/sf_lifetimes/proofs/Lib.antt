@@ -5,3 +5,4 @@ mod ByHolder
 mod CountLaws
 mod ExchangeLaws
 mod LedgerLaws
+mod ExampleLaws

@@ -9,3 +9,6 @@ mod holder_map;
 
 pub use ledger::Ledger;
 pub use holder::{Holder, HolderList};
+
+#[cfg(test)]
+mod tests;
