@@ -228,27 +228,6 @@ pub named_once : (xs : List ℕ) → AllPairs (λ x y. x ≢ y) xs → (q : ℕ)
 named_once xs apart = counted_once xs (IsDistinct-from_AllPairs unsigned_Decides xs apart)
 
 -- ---- one change after another
-or_at : (a b : Bool) (x y : Option Counted) → (b ≡ true → a ≡ false) → cond b x (cond a x y) ≡ cond (a || b) x y
-or_at true true x y apart = let bad = apart refl in absurd cc
-or_at true false x y apart = refl
-or_at false true x y apart = refl
-or_at false false x y apart = refl
-
--- the next of a list is changed, which isn't among those before it
-pub changed_more : (change : Option Counted → Option Counted) (m n p : CountedMap) (bs more : List ℕ) (b : ℕ)
-    → ((q : ℕ) → has_birth more q ≡ (has_birth bs q || (q == b))) → has_birth bs b ≡ false
-    → AreChanged change m bs n → IsChangedAt change n b p → AreChanged change m more p
-changed_more change m n p bs more b is new before now q =
-    let own : fin.get n b ≡ fin.get m b = before b ∙ ap (λ t. cond t (change (fin.get m b)) (fin.get m b)) new in
-    now q
-    ∙ elim (q == b) as (λ t. (q == b) ≡ t → cond t (change (fin.get n b)) (fin.get n q) ≡ cond t (change (fin.get m q)) (fin.get n q)) [
-      | true ↦ λ t. ap change (own ∙ ap (fin.get m) (sym (same_number q b t)))
-      | false ↦ λ t. refl
-    ] refl
-    ∙ ap (cond (q == b) (change (fin.get m q))) (before q)
-    ∙ or_at (has_birth bs q) (q == b) (change (fin.get m q)) (fin.get m q) (λ t. ap (has_birth bs) (same_number q b t) ∙ new)
-    ∙ ap (λ t. cond t (change (fin.get m q)) (fin.get m q)) (sym (is q))
-
 below_at : (x : ℕ) (xs : List ℕ) (k : ℕ) → IsBelowAll x xs → k < length xs → x < get_or xs k 0
 below_at x [] k below less = absurd (omega (arith, less))
 below_at x (y ∷ xs) zero below less = below.0
@@ -265,16 +244,37 @@ not_before (x ∷ xs) (suc k) rising less =
     ap (λ t. t || has_birth (take k xs) (get_or xs k 0)) (other_number x (get_or xs k 0) (below_at x xs k rising.0 (omega (arith, less))))
     ∙ not_before xs k rising.1 (omega (arith, less))
 
+or_at : {X : Type 0} (a b : Bool) (x y : X) → (b ≡ true → a ≡ false) → cond b x (cond a x y) ≡ cond (a || b) x y
+or_at true true x y apart = let bad = apart refl in absurd cc
+or_at true false x y apart = refl
+or_at false true x y apart = refl
+or_at false false x y apart = refl
+
 -- what stands before a birth in a rising list has left what it has alone
-pub untouched : (change : Option Counted → Option Counted) (m n : CountedMap) (xs : List ℕ) (k : ℕ) → IsRising xs → k < length xs → AreChanged change m (take k xs) n → fin.get n (get_or xs k 0) ≡ fin.get m (get_or xs k 0)
-untouched change m n xs k rising less before =
+pub point_same : {X : Type 0} (g : ℕ → X → X) (f h : ℕ → X) (xs : List ℕ) (k : ℕ) → IsRising xs → k < length xs → ((q : ℕ) → h q ≡ cond (has_birth (take k xs) q) (g q (f q)) (f q)) → h (get_or xs k 0) ≡ f (get_or xs k 0)
+point_same g f h xs k rising less before =
     let b = get_or xs k 0 in
-    before b ∙ ap (λ t. cond t (change (fin.get m b)) (fin.get m b)) (not_before xs k rising less)
+    before b ∙ ap (λ t. cond t (g b (f b)) (f b)) (not_before xs k rising less)
 
 -- the next birth of a rising list is changed
+pub point_next : {X : Type 0} (g : ℕ → X → X) (f h p : ℕ → X) (xs : List ℕ) (k : ℕ) → IsRising xs → k < length xs → ((q : ℕ) → h q ≡ cond (has_birth (take k xs) q) (g q (f q)) (f q))
+    → ((q : ℕ) → p q ≡ cond (q == get_or xs k 0) (g (get_or xs k 0) (h (get_or xs k 0))) (h q)) → (q : ℕ) → p q ≡ cond (has_birth (take (k + 1) xs) q) (g q (f q)) (f q)
+point_next g f h p xs k rising less before now q =
+    let b = get_or xs k 0 in
+    now q
+    ∙ elim (q == b) as (λ t. (q == b) ≡ t → cond t (g b (h b)) (h q) ≡ cond t (g q (f q)) (h q)) [
+      | true ↦ λ t. ap (g b) (point_same g f h xs k rising less before) ∙ ap (λ n. g n (f n)) (sym (same_number q b t))
+      | false ↦ λ t. refl
+    ] refl
+    ∙ ap (cond (q == b) (g q (f q))) (before q)
+    ∙ or_at (has_birth (take k xs) q) (q == b) (g q (f q)) (f q) (λ t. ap (has_birth (take k xs)) (same_number q b t) ∙ not_before xs k rising less)
+    ∙ ap (λ t. cond t (g q (f q)) (f q)) (sym (list_any_more (λ x. q == x) xs k 0 less))
+
+pub untouched : (change : Option Counted → Option Counted) (m n : CountedMap) (xs : List ℕ) (k : ℕ) → IsRising xs → k < length xs → AreChanged change m (take k xs) n → fin.get n (get_or xs k 0) ≡ fin.get m (get_or xs k 0)
+untouched change m n xs k rising less before = point_same (λ _. change) (fin.get m) (fin.get n) xs k rising less before
+
 pub changed_next : (change : Option Counted → Option Counted) (m n p : CountedMap) (xs : List ℕ) (k : ℕ) → IsRising xs → k < length xs → AreChanged change m (take k xs) n → IsChangedAt change n (get_or xs k 0) p → AreChanged change m (take (k + 1) xs) p
-changed_next change m n p xs k rising less before now =
-    changed_more change m n p (take k xs) (take (k + 1) xs) (get_or xs k 0) (λ q. list_any_more (λ b. q == b) xs k 0 less) (not_before xs k rising less) before now
+changed_next change m n p xs k rising less before now = point_next (λ _. change) (fin.get m) (fin.get n) (fin.get p) xs k rising less before now
 
 pub has_own : (xs : List ℕ) (k : ℕ) → k < length xs → has_birth xs (get_or xs k 0) ≡ true
 has_own xs k less = list_any_at (λ b. get_or xs k 0 == b) xs k 0 less (itself (get_or xs k 0))

@@ -64,10 +64,10 @@ pub none_counted_by : IsCountedBy fin.empty fin.empty
 none_counted_by b = ap holders_in (get-empty nat_cmp b) ∙ sym (ap (count_by (λ births. has_birth births b)) (no_values holder_cmp))
 
 -- ---- the number of holders
-abbrev holds : ℕ → List ℕ → ℕ
+abbrev pub holds : ℕ → List ℕ → ℕ
 holds b births = cond (has_birth births b) 1 0
 
-weight_held : (holdings : Holdings) (holder : Holder) (b : ℕ) → weight (holds b) (fin.get holdings holder) ≡ holds b (held_by holdings holder)
+pub weight_held : (holdings : Holdings) (holder : Holder) (b : ℕ) → weight (holds b) (fin.get holdings holder) ≡ holds b (held_by holdings holder)
 weight_held holdings holder b = elim (fin.get holdings holder) as (λ x. weight (holds b) x ≡ holds b (unwrap_or x [])) [ None ↦ refl | Some births ↦ refl ]
 
 pub number_changes : (holdings : Holdings) (holder : Holder) (births : List ℕ) (b : ℕ) → number_of_holders b (with_births holdings holder births) + holds b (held_by holdings holder) ≡ number_of_holders b holdings + holds b births

@@ -5,4 +5,5 @@ mod ByHolder
 mod CountLaws
 mod ExchangeLaws
 mod LedgerLaws
+mod TallyLaws
 mod ExampleLaws

@@ -102,6 +102,24 @@ module _ {K X : Type 0} (R : K → K → Ordering) (o : IsTotalOrder R) (same : 
         | Some v ↦ λ is. omega (arith, ap (λ n. sum_by f (fin.values n)) (put-back m k v is), sum-insert R o f (fin.remove m k) k v, ap (weight f) (gone m k))
       ] refl
 
+  -- a value weighs no more than all
+  pub weight-le : (f : X → ℕ) (m : FinMap R X) (k : K) → weight f (get m k) ≤ sum_by f (fin.values m)
+  weight-le f m k = omega (arith, sum-remove f m k)
+
+-- where each value weighs no more, they weigh no more together
+pub sum-le : {K X Y : Type 0} (R : K → K → Ordering) (o : IsTotalOrder R) (same : IsAntisymmetric R) (f : X → ℕ) (g : Y → ℕ) (es : List (K × X)) (n : FinMap R Y) → T (is_sorted R es)
+    → ((q : K) → weight f (find R q es) ≤ weight g (get n q)) → sum_by f (map (λ e. e.1) es) ≤ sum_by g (fin.values n)
+sum-le R o same f g [] n sorted le = omega arith
+sum-le {K} {X} R o same f g (e ∷ es) n sorted le =
+    let own : f e.1 ≤ weight g (get n e.0) = subst (λ (x : Option X). weight f x ≤ weight g (get n e.0)) (ap (λ r. cond (is_eq r) (Some e.1) (find R e.0 es)) (tied_itself o e.0)) (le e.0) in
+    let rest = sum-le R o same f g es (fin.remove n e.0) (second _ _ sorted) (λ q.
+      subst (λ y. weight f (find R q es) ≤ weight g y) (sym (get-remove o n e.0 q))
+      (elim (eq_by_cmp R q e.0) as (λ t. eq_by_cmp R q e.0 ≡ t → weight f (cond t (Some e.1) (find R q es)) ≤ weight g (get n q) → weight f (find R q es) ≤ weight g (cond t None (get n q))) [
+        | true ↦ λ t _. omega (arith, ap (weight f) (find-below R o q es (below-tied R o q e.0 es (equal _ t) (first _ _ sorted))))
+        | false ↦ λ t fits. fits
+      ] refl (le q))) in
+    omega (arith, own, rest, sum_by-cons f e.1 (map (λ (e : K × X). e.1) es), sum-remove R o same g n e.0)
+
 no_length : {A : Type 0} (xs : List A) → length xs ≡ 0 → xs ≡ []
 no_length [] is = refl
 no_length (x ∷ xs) is = absurd (omega (arith, is))

@@ -62,6 +62,16 @@ abbrev pub handed_out : LedgerView → Holder → List ℕ → List (List Run)
 handed_out ledger holder births =
     map (λ b. unwrap_or (fin.get ledger.places b) []) (unheld ledger.holdings holder births)
 
+-- The holdings without these holders.
+abbrev pub without : Holdings → List Holder → Holdings
+without holdings [] = holdings
+without holdings (h ∷ hs) = fin.remove (without holdings hs) h
+
+-- The blocks of the live births that none but these holders hold.
+abbrev pub freed_by : LedgerView → List Holder → ℕ
+freed_by ledger holders =
+    sum_by (λ e. cond (number_of_holders e.0 ledger.holdings == 0) 0 (cond (number_of_holders e.0 (without ledger.holdings holders) == 0) (length (blocks_in e.1)) 0)) (fin.entries ledger.places)
+
 -- All blocks of all places.
 abbrev pub placed_blocks : Places → List ℕ
 placed_blocks places = flat_map blocks_in (fin.values places)

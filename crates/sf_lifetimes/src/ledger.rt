@@ -1,14 +1,15 @@
 //! The ledger of contents by counts.
-ghost use Rattle.std.specs.Prelude.{◌≡◌, ◌+◌, ◌≤◌, ◌++◌, [], ◌==◌, cond, length, All, None, Some, IsSome, IfOk, OnOk};
+ghost use Rattle.std.specs.Prelude.{◌≡◌, ◌≢◌, ◌+◌, ◌≤◌, ◌^◌, ◌++◌, [], ◌==◌, cond, length, All, AllPairs, None, Some, IsSome, IfOk, OnOk};
 ghost use Rattle.std.specs.Option.{option_copied};
 ghost use Rattle.std.specs.FinMap as fin;
 ghost use Rattle.sf_types.specs.Rooms.{MakesRoom, GrowsWithin};
-ghost use Rattle.sf_lifetimes.specs.Ledgers.{IsNewPlace, MovesWithin, number_of_holders, place_of, live_blocks, unheld, with_held, handed_out};
+ghost use Rattle.sf_lifetimes.specs.Ledgers.{IsNewPlace, MovesWithin, number_of_holders, place_of, live_blocks, unheld, with_held, handed_out, freed_by};
 
 use crate::exchange::count_again;
-use crate::holder::Holder;
+use crate::holder::{Holder, HolderList};
 use crate::holder_map::HolderMap;
 use crate::place_map::{Counted, PlaceMap};
+use crate::tally::freed_blocks;
 use sf_types::{Births, ContentRuns, Mem, RunsList};
 use std::alloc::Global;
 use std::marker::Model;
@@ -95,7 +96,8 @@ impl Ledger {
 
     /// The number of blocks of all live births, 2^32 at most.
     pub fn live_blocks(&self) -> u64
-        ensures { result ≡ live_blocks self.now.held }
+        ensures live { result ≡ live_blocks self.now.held }
+        ensures few { result ≤ 2 ^ 32 }
     {
         self.places.live_blocks()
     }
@@ -145,5 +147,18 @@ impl Ledger {
         count_again(&mut self.places, &self.holdings, holder, &[], into)?;
         self.holdings.remove(holder);
         Ok(())
+    }
+
+    /// The number of blocks of the live births that none but these holders hold, 2^32 at most. Each holder is named once.
+    pub fn freed_by(&self, holders: &HolderList) -> Mem<u64>
+        requires { AllPairs (λ holder other. holder ≢ other) holders.now }
+        ensures { IfOk result (λ blocks. blocks ≡ freed_by self.now.held holders.now) }
+    {
+        freed_blocks(
+            holders.allocator(),
+            &self.places,
+            &self.holdings,
+            holders.as_slice(),
+        )
     }
 }

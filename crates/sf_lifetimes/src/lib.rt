@@ -3,6 +3,7 @@
 
 mod ledger;
 mod place_map;
+mod tally;
 mod exchange;
 mod holder;
 mod holder_map;

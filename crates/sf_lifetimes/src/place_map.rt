@@ -94,7 +94,8 @@ impl PlaceMap {
 
     // The number of blocks of places that some holder holds.
     pub fn live_blocks(&self) -> u64
-        ensures { result ≡ live_sum self.now.held }
+        ensures live { result ≡ live_sum self.now.held }
+        ensures few { result ≤ 2 ^ 32 }
     {
         self.live
     }
@@ -190,6 +191,16 @@ impl PlaceMap {
     {
         match self.get(birth) {
             Some(counted) => counted.holders,
+            None => 0,
+        }
+    }
+
+    // The number of blocks of a birth's place, none where it has no place.
+    pub fn blocks_of(&self, birth: u128) -> u64
+        ensures { result ≡ length (blocks_in (runs_in (fin.get self.now.held birth))) }
+    {
+        match self.entries.get(&birth) {
+            Some(counted) => counted.blocks,
             None => 0,
         }
     }

@@ -9,5 +9,5 @@ use Rattle.sf_lifetimes.specs.Ledgers.{LedgerView, Places, Holdings, IsNewPlace,
 use Rattle.sf_lifetimes.proofs.LedgerLaws.{live_sum_is, placed_at, runs_at, unplaced, get_places, new_is_free, counted_placed, places_placed, are_held, are_few, counted_after, left_is_unheld, places_after, runs_handed_out}
 use Rattle.sf_lifetimes.proofs.ledger.Ledger.live_blocks.Goals as goal
 
-pub returns : goal.returns
-returns c = c.live_blocks.ensures ∙ live_sum_is c.self.inside.places.held c.self.inside.holdings.held c.self.invariant ∙ ap (λ v. live_blocks v.held) c.self.view_is
+pub returns-clause-live : goal.returns-clause-live
+returns-clause-live c = c.live_blocks.ensures.live ∙ live_sum_is c.self.inside.places.held c.self.inside.holdings.held c.self.invariant ∙ ap (λ v. live_blocks v.held) c.self.view_is
