@@ -2,7 +2,7 @@ ghost use Rattle.std.specs.Prelude.{◌≡◌, [], ◌∷◌, IfOk, OnOk, IsSome
 ghost use Rattle.std.specs.FinMap as fin;
 ghost use Rattle.sf_lifetimes.specs.Examples.{HasTwoPlaces};
 
-use crate::holder::Holder;
+use crate::holder::{Holder, HolderList};
 use crate::ledger::Ledger;
 use sf_types::{Births, ContentRuns, Mem, Name, OutOfMemory, Run, RunsList};
 use std::alloc::Global;
@@ -100,5 +100,23 @@ fn ledger_by_counts(rt: HostRuntime) -> Result<(), Fail> {
             assert_eq!(rt; run.blocks, 1);
         }
     }
+    Ok(())
+}
+
+// What the version of row a frees, where a session holds birth 2 too.
+fn freed_by_version(alloc: Global) -> Mem<u64> {
+    let mut into = RunsList::new(alloc);
+    let mut ledger = two_places(alloc)?;
+    hold_both(alloc, &mut ledger, version_of_a(alloc)?, &mut into)?;
+    hold_one(alloc, &mut ledger, Holder::Session(1), 2, &mut into)?;
+    let mut holders = HolderList::new(alloc);
+    holders.push(version_of_a(alloc)?)?;
+    ledger.freed_by(&holders)
+}
+
+#[test]
+fn freed_by_holders(rt: HostRuntime) -> Result<(), Fail> {
+    let freed = freed_by_version(rt.alloc()).ok().ok_or("memory")?;
+    assert_eq!(rt; freed, 1);
     Ok(())
 }
