@@ -110,7 +110,7 @@ changed_at change m b c is q =
 abbrev pub with_holders : Counted → ℕ → Counted
 with_holders c h = record { runs = c.runs; blocks = c.blocks; holders = h }
 
-same_number : (q b : ℕ) → (q == b) ≡ true → q ≡ b
+pub same_number : (q b : ℕ) → (q == b) ≡ true → q ≡ b
 same_number q b is = grind (arith, nat_tests, is)
 
 some_is : (c d : Counted) → Some c ≡ Some d → c ≡ d

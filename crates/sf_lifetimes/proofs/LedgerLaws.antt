@@ -1,6 +1,6 @@
 -- What counts say of a ledger.
 use Rattle.std.proofs.Common.{◌≡◌, ℕ, ◌+◌, ◌-◌, ◌^◌, ◌≤◌, ◌<◌, Bool, true, false, cond, eqb, List, [], ◌∷◌, length, map, Option, Some, None, refl, sym, ap, subst, ◌∙◌, arith}
-use Rattle.std.specs.Prelude.{◌==◌, ◌&&◌, ◌||◌, not, T, is_some, IsSome, nat_le, nat_lt, All, Contains, flat_map}
+use Rattle.std.specs.Prelude.{◌==◌, ◌&&◌, ◌||◌, not, T, is_some, IsSome, nat_le, nat_lt, ◌≢◌, All, AllPairs, Contains, flat_map}
 use Rattle.std.specs.List.{filter, list_any, sum_by, count_by, AllByRecursion}
 use Rattle.std.specs.Option.{unwrap_or, option_map}
 use Rattle.std.specs.Ordering.{nat_cmp, is_lt, is_eq, eq_by_cmp}
@@ -30,32 +30,38 @@ use Rattle.sf_lifetimes.proofs.CountLaws.{with_holders, not_some, named_once, no
 use Rattle.sf_lifetimes.proofs.ExchangeLaws.{raised_at, exchanged_count}
 
 -- ---- the places without the counts
-abbrev uncounted : ℕ × Counted → ℕ × List Run
+abbrev pub uncounted : ℕ × Counted → ℕ × List Run
 uncounted = λ e. (e.0, e.1.runs)
 
 abbrev pub runs_at : Option Counted → Option (List Run)
 runs_at x = option_map (λ c. c.runs) x
 
-below_map : (x : ℕ) (es : List (ℕ × Counted)) → below_all nat_cmp x (map uncounted es) ≡ below_all nat_cmp x es
-below_map x [] = refl
-below_map x (e ∷ es) = ap (λ t. is_lt (nat_cmp x e.0) && t) (below_map x es)
+module _ {X Y : Type 0} (g : X → Y) where
+  below_values : (x : ℕ) (es : List (ℕ × X)) → below_all nat_cmp x (map (λ e. (e.0, g e.1)) es) ≡ below_all nat_cmp x es
+  below_values x [] = refl
+  below_values x (e ∷ es) = ap (λ t. is_lt (nat_cmp x e.0) && t) (below_values x es)
 
-sorted_map : (es : List (ℕ × Counted)) → is_sorted nat_cmp (map uncounted es) ≡ is_sorted nat_cmp es
-sorted_map [] = refl
-sorted_map (e ∷ es) = ap (λ t. t && is_sorted nat_cmp (map uncounted es)) (below_map e.0 es) ∙ ap (λ t. below_all nat_cmp e.0 es && t) (sorted_map es)
+  pub sorted_values : (es : List (ℕ × X)) → is_sorted nat_cmp (map (λ e. (e.0, g e.1)) es) ≡ is_sorted nat_cmp es
+  sorted_values [] = refl
+  sorted_values (e ∷ es) =
+      ap (λ t. t && is_sorted nat_cmp (map (λ (e : ℕ × X). (e.0, g e.1)) es)) (below_values e.0 es) ∙ ap (λ t. below_all nat_cmp e.0 es && t) (sorted_values es)
 
-find_map : (q : ℕ) (es : List (ℕ × Counted)) → find nat_cmp q (map uncounted es) ≡ runs_at (find nat_cmp q es)
-find_map q [] = refl
-find_map q (e ∷ es) = elim (eq_by_cmp nat_cmp q e.0) as (λ t. cond t (Some e.1.runs) (find nat_cmp q (map uncounted es)) ≡ runs_at (cond t (Some e.1) (find nat_cmp q es))) [ true ↦ refl | false ↦ find_map q es ]
+  pub find_values : (q : ℕ) (es : List (ℕ × X)) → find nat_cmp q (map (λ e. (e.0, g e.1)) es) ≡ option_map g (find nat_cmp q es)
+  find_values q [] = refl
+  find_values q (e ∷ es) =
+      elim (eq_by_cmp nat_cmp q e.0) as (λ t. cond t (Some (g e.1)) (find nat_cmp q (map (λ (e : ℕ × X). (e.0, g e.1)) es)) ≡ option_map g (cond t (Some e.1) (find nat_cmp q es))) [
+        | true ↦ refl
+        | false ↦ find_values q es
+      ]
 
 mapped_sorted : (m : CountedMap) → T (is_sorted nat_cmp (map uncounted (entries m)))
-mapped_sorted m = subst T (sym (sorted_map (entries m))) (entries_sorted m)
+mapped_sorted m = subst T (sym (sorted_values (λ (c : Counted). c.runs) (entries m))) (entries_sorted m)
 
 pub entries_places : (m : CountedMap) → entries (places_in m) ≡ map uncounted (entries m)
 entries_places m = entries-from_sorted nat_cmp (map uncounted (entries m)) (mapped_sorted m)
 
 pub get_places : (m : CountedMap) (q : ℕ) → fin.get (places_in m) q ≡ runs_at (fin.get m q)
-get_places m q = get-from_sorted nat_cmp (map uncounted (entries m)) q (mapped_sorted m) ∙ find_map q (entries m) ∙ ap runs_at (sym (get-entries m q))
+get_places m q = get-from_sorted nat_cmp (map uncounted (entries m)) q (mapped_sorted m) ∙ find_values (λ (c : Counted). c.runs) q (entries m) ∙ ap runs_at (sym (get-entries m q))
 
 pub no_places : places_in fin.empty ≡ fin.empty
 no_places = same_map nat_cmp_total nat_cmp-IsAntisymmetric _ _ (λ q. get_places fin.empty q ∙ ap runs_at (get-empty nat_cmp q) ∙ sym (get-empty nat_cmp q))
@@ -241,7 +247,7 @@ pub unplaced : (x : Option Counted) → runs_at x ≡ None → x ≡ None
 unplaced None is = refl
 unplaced (Some c) is = absurd cc
 
-placed_times : (block : ℕ) (es : List (ℕ × Counted)) → count_by (λ y. block == y) (flat_map blocks_in (map (λ e. e.1) (map uncounted es))) ≡ sum_by (times block) (map (λ e. e.1) es)
+pub placed_times : (block : ℕ) (es : List (ℕ × Counted)) → count_by (λ y. block == y) (flat_map blocks_in (map (λ e. e.1) (map uncounted es))) ≡ sum_by (times block) (map (λ e. e.1) es)
 placed_times block [] = refl
 placed_times block (e ∷ es) =
     omega (arith, sum_by-append (λ y. cond (block == y) 1 0) (blocks_in e.1.runs) (flat_map blocks_in (map (λ (e : ℕ × List Run). e.1) (map uncounted es))), placed_times block es, sum_by-cons (times block) e.1 (map (λ (e : ℕ × Counted). e.1) es))
@@ -255,6 +261,14 @@ not_contained q xs none = elim (has_birth xs q) as (λ t. has_birth xs q ≡ t �
 below_bound : (q n : ℕ) → q < n → nat_lt q n ≡ true
 below_bound q n less = grind (arith, nat_tests, less)
 
+-- blocks below 2^32 that are named once each
+pub named_fit : (xs : List ℕ) → All (λ b. b < 2 ^ 32) xs → AllPairs (λ x y. x ≢ y) xs → (block : ℕ) → count_by (λ y. block == y) xs ≤ cond (nat_lt block (2 ^ 32)) 1 0
+named_fit xs below once block =
+    elim (has_birth xs block) as (λ t. has_birth xs block ≡ t → count_by (λ y. block == y) xs ≤ cond (nat_lt block (2 ^ 32)) 1 0) [
+      | true ↦ λ t. omega (arith, named_once xs once block, ap {B = ℕ} (λ b. cond b 1 0) (below_bound block (2 ^ 32) (is_at (λ b. b < 2 ^ 32) block xs (recursion_from_All (λ b. b < 2 ^ 32) xs below) t)))
+      | false ↦ λ t. omega (arith, none_counted_in block xs t)
+    ] refl
+
 -- blocks that the rules let a new place have are free
 pub new_is_free : (m : CountedMap) (runs : List Run) → IsNewPlace (places_in m) runs → IsFree m runs
 new_is_free m runs new block =
@@ -262,8 +276,5 @@ new_is_free m runs new block =
     let all = placed_blocks (places_in m) in
     let times_all : count_by (λ y. block == y) all ≡ sum_by (times block) (fin.values m) =
       ap (λ (es : List (ℕ × List Run)). count_by (λ y. block == y) (flat_map blocks_in (map (λ e. e.1) es))) (entries_places m) ∙ placed_times block (entries m) in
-    (elim (has_birth xs block) as (λ t. has_birth xs block ≡ t → count_by (λ y. block == y) xs ≤ cond (nat_lt block (2 ^ 32)) 1 0) [
-      | true ↦ λ t. omega (arith, named_once xs new.once block, ap {B = ℕ} (λ b. cond b 1 0) (below_bound block (2 ^ 32) (is_at (λ b. b < 2 ^ 32) block xs (recursion_from_All (λ b. b < 2 ^ 32) xs new.below) t)))
-      | false ↦ λ t. omega (arith, none_counted_in block xs t)
-    ] refl,
+    (named_fit xs new.below new.once block,
       λ some. omega (arith, times_all, none_counted_in block all (not_contained block all (is_at (λ b. ¬ (Contains all b)) block xs (recursion_from_All (λ b. ¬ (Contains all b)) xs new.apart) (stands_in block xs some)))))

@@ -6,4 +6,5 @@ mod CountLaws
 mod ExchangeLaws
 mod LedgerLaws
 mod TallyLaws
+mod ShiftLaws
 mod ExampleLaws

@@ -5,4 +5,5 @@ pub mod Counts
 pub mod Examples
 pub mod Holders
 pub mod Ledgers
+pub mod Shifts
 pub mod Tallies

@@ -1,8 +1,9 @@
 //! The ledger of contents by counts.
-ghost use Rattle.std.specs.Prelude.{◌≡◌, ◌≢◌, ◌+◌, ◌≤◌, ◌^◌, ◌++◌, [], ◌==◌, cond, length, All, AllPairs, None, Some, IsSome, IfOk, OnOk};
+ghost use Rattle.std.specs.Prelude.{◌≡◌, ◌≢◌, ◌+◌, ◌≤◌, ◌^◌, ◌++◌, [], ◌==◌, cond, length, map, All, AllPairs, None, Some, IsSome, IfOk, OnOk};
 ghost use Rattle.std.specs.Option.{option_copied};
 ghost use Rattle.std.specs.FinMap as fin;
 ghost use Rattle.sf_types.specs.Rooms.{MakesRoom, GrowsWithin};
+ghost use Rattle.sf_lifetimes.specs.Shifts.{AreSafeShifts};
 ghost use Rattle.sf_lifetimes.specs.Ledgers.{IsNewPlace, MovesWithin, number_of_holders, place_of, live_blocks, unheld, with_held, handed_out, freed_by};
 
 use crate::exchange::count_again;
@@ -10,6 +11,7 @@ use crate::holder::{Holder, HolderList};
 use crate::holder_map::HolderMap;
 use crate::place_map::{Counted, PlaceMap};
 use crate::tally::freed_blocks;
+use sf_shrink::ShiftList;
 use sf_types::{Births, ContentRuns, Mem, RunsList};
 use std::alloc::Global;
 use std::marker::Model;
@@ -160,5 +162,17 @@ impl Ledger {
             &self.holdings,
             holders.as_slice(),
         )
+    }
+
+    /// Gives each birth its new place. The shifts name the births that have a place, in their order, each with as many
+    /// blocks as before; each block is below 2^32, and none stands twice. A birth that has a place and waits for its first
+    /// holder is named too. It takes no memory.
+    pub fn shift(&mut self, shifts: ShiftList)
+        requires { AreSafeShifts self.old.held.places shifts }
+        ensures places { fin.entries self.new.held.places ≡ map (λ shift. (shift.birth, shift.to)) shifts }
+        ensures holdings { self.new.held.holdings ≡ self.old.held.holdings }
+        ensures spare { self.old.spare ≤ self.new.spare }
+    {
+        self.places.shift(shifts);
     }
 }

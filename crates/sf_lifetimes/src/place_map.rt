@@ -1,12 +1,17 @@
 //! The places of births with the number of their holders.
-ghost use Rattle.std.specs.Prelude.{◌≡◌, ◌+◌, ◌<◌, ◌≤◌, ◌^◌, ◌==◌, ◌++◌, ◌∷◌, [], cond, length, None, OnOk, IsSome};
+ghost use Rattle.std.specs.Prelude.{◌≡◌, ℕ, ◌+◌, ◌<◌, ◌≤◌, ◌^◌, ◌==◌, ◌++◌, ◌∷◌, [], cond, length, None, OnOk, IsSome};
 ghost use Rattle.std.specs.Option.{option_copied};
 ghost use Rattle.std.specs.FinMap as fin;
+ghost use Rattle.std.specs.Ordering.{nat_cmp};
+ghost use Rattle.std.specs.HashMap.{spare};
 ghost use Rattle.sf_types.specs.Births.{IsRising};
 ghost use Rattle.sf_types.specs.Placings.{blocks_in};
 ghost use Rattle.sf_types.specs.Rooms.{MakesRoom, GrowsWithin};
+ghost use Rattle.sf_lifetimes.specs.Counted.{places_in};
+ghost use Rattle.sf_lifetimes.specs.Shifts.{AreSafeShifts, moved, shifted};
 ghost use Rattle.sf_lifetimes.specs.Counts.{live_sum, holders_in, runs_in, raised, lowered, released, IsChangedAt, AreChanged, AreFew, AreHeld, IsFree, unheld_place, last_held, runs_of};
 
+use sf_shrink::{Shift, ShiftList};
 use sf_types::{ContentRuns, Mem, Run, RunsList};
 use std::alloc::Global;
 use std::collections::HashMap;
@@ -37,6 +42,30 @@ fn blocks_if_held(holders: u64, blocks: u64) -> u64
     ensures { result ≡ cond (holders == 0) 0 blocks }
 {
     if holders == 0 { 0 } else { blocks }
+}
+
+// Gives a birth other runs, where it has a place. It takes no memory.
+fn shift_one(entries: &mut HashMap<u128, Counted>, birth: u128, to: ContentRuns)
+    ensures changed { (q : ℕ) → fin.get (fin.from_entries {R = nat_cmp} entries.new.entries) q
+        ≡ cond (q == birth) (moved to (fin.get (fin.from_entries {R = nat_cmp} entries.old.entries) q)) (fin.get (fin.from_entries {R = nat_cmp} entries.old.entries) q) }
+    ensures spare { spare entries.new ≡ spare entries.old }
+{
+    match entries.get_mut(&birth) {
+        Some(counted) => counted.runs = to,
+        None => {}
+    }
+}
+
+// Gives each birth of a list other runs. It takes no memory.
+fn shift_all(entries: &mut HashMap<u128, Counted>, shifts: Vec<Shift>)
+    ensures changed { (q : ℕ) → fin.get (fin.from_entries {R = nat_cmp} entries.new.entries) q
+        ≡ shifted shifts.items q (fin.get (fin.from_entries {R = nat_cmp} entries.old.entries) q) }
+    ensures spare { spare entries.new ≡ spare entries.old }
+{
+    let mut rest = shifts;
+    while let Some(shift) = rest.pop() {
+        shift_one(entries, shift.birth, shift.to);
+    }
 }
 
 /// Places by births, seen as a finite map, with room for more.
@@ -253,5 +282,14 @@ impl PlaceMap {
         for birth in births {
             self.release(*birth, into);
         }
+    }
+
+    // Gives each birth its new place. It takes no memory.
+    pub fn shift(&mut self, shifts: ShiftList)
+        requires { AreSafeShifts (places_in self.old.held) shifts }
+        ensures changed { (q : ℕ) → fin.get self.new.held q ≡ shifted shifts q (fin.get self.old.held q) }
+        ensures spare { self.new.spare ≡ self.old.spare }
+    {
+        shift_all(&mut self.entries, shifts.into_vec());
     }
 }
