@@ -1,5 +1,5 @@
 -- The finite map of a hash map from births.
-use Rattle.std.proofs.Common.{◌≡◌, ℕ, Bool, Option, Some, None, cond, nat_eq}
+use Rattle.std.proofs.Common.{◌≡◌, ℕ, Some, None, cond, nat_eq}
 use Rattle.std.specs.Cmp.{nat_cmp_total, unsigned_ties}
 use Rattle.std.specs.Ordering.{nat_cmp}
 use Rattle.std.specs.HashMap.{HashMap, get}

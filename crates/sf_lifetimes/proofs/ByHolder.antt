@@ -1,5 +1,5 @@
 -- The finite map of a hash map from holders.
-use Rattle.std.proofs.Common.{◌≡◌, Bool, Option, Some, None, cond, nat_eq}
+use Rattle.std.proofs.Common.{◌≡◌, Bool, Some, None, cond, nat_eq}
 use Rattle.std.specs.Cmp.Lexicographic.{pointwise, texts_ties}
 use Rattle.std.specs.HashMap.{HashMap, get}
 use Rattle.std.specs.FinMap as fin

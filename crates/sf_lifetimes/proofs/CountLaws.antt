@@ -1,17 +1,17 @@
 -- How counts change.
-use Rattle.std.proofs.Common.{◌≡◌, ℕ, ◌+◌, ◌-◌, ◌*◌, ◌^◌, ◌<◌, ◌≤◌, Bool, true, false, cond, nat_lt, List, [], ◌∷◌, ◌++◌, length, map, Option, Some, None, refl, sym, ap, subst, ◌∙◌, arith}
-use Rattle.std.specs.Prelude.{◌==◌, ◌||◌, ◌≢◌, nat_le, T, is_some}
-use Rattle.std.specs.List.{list_any, sum_by, count_by, filter}
+use Rattle.std.proofs.Common.{◌≡◌, ℕ, ◌+◌, ◌-◌, ◌^◌, ◌<◌, ◌≤◌, Bool, true, false, cond, nat_lt, List, [], ◌∷◌, ◌++◌, length, map, Option, Some, None, refl, sym, ap, subst, ◌∙◌, arith}
+use Rattle.std.specs.Prelude.{◌==◌, ◌||◌, ◌≢◌, nat_le}
+use Rattle.std.specs.List.{list_any, sum_by, count_by}
 use Rattle.std.specs.Ordering.{nat_cmp, eq_by_cmp}
 use Rattle.std.specs.Cmp.{nat_cmp_total, unsigned_ties, unsigned_Decides}
 use Rattle.std.specs.Prelude.{AllPairs}
 use Rattle.std.proofs.lemmas.Map.Made.{IsDistinct-from_AllPairs}
 use Rattle.std.specs.FinMap as fin
-use Rattle.std.specs.FinMap.{nat_cmp-IsAntisymmetric, same_map, get-insert, get-remove, get-empty, empty, entries, len-entries, len-empty}
+use Rattle.std.specs.FinMap.{nat_cmp-IsAntisymmetric, get-insert, get-remove, get-empty, empty}
 use Rattle.sf_types.specs.declared.place.Run.{Run}
 use Rattle.sf_types.specs.Placings.{blocks_in}
 use Rattle.sf_lifetimes.specs.declared.place_map.Counted.{Counted}
-use Rattle.sf_lifetimes.specs.Counts.{CountedMap, IsCounted, IsFree, unheld_place, IsChangedAt, AreChanged, raised, lowered, released, live_in, live_sum, times, has_birth, holders_in, runs_in, last_held, runs_of}
+use Rattle.sf_lifetimes.specs.Counts.{CountedMap, IsCounted, IsFree, unheld_place, IsChangedAt, AreChanged, released, live_in, times, has_birth, holders_in, runs_in, last_held, runs_of}
 use Rattle.std.proofs.Common.{eqb, flat_map, length-append}
 use Rattle.std.specs.List.{AllByRecursion, IsDistinct}
 use Rattle.std.proofs.Common.{zero, suc, take, get_or}
@@ -51,9 +51,9 @@ distinct : (xs : List ℕ) → ((x : ℕ) → count_by (λ y. x == y) xs ≤ 1) 
 unfolding IsDistinct
 distinct [] most = tt
 distinct (x ∷ xs) most = (
-    no_more x xs (omega (arith, most x, sum_by-cons (λ y. cond (x == y) 1 0) x xs, ap {B = ℕ} (λ b. cond b 1 0) (itself x))),
-    distinct xs (λ z. omega (arith, most z, sum_by-cons (λ y. cond (z == y) 1 0) x xs)),
-  )
+  no_more x xs (omega (arith, most x, sum_by-cons (λ y. cond (x == y) 1 0) x xs, ap {B = ℕ} (λ b. cond b 1 0) (itself x))),
+  distinct xs (λ z. omega (arith, most z, sum_by-cons (λ y. cond (z == y) 1 0) x xs)),
+)
 
 some_count : (q : ℕ) (xs : List ℕ) → list_any (eqb q) xs ≡ true → 1 ≤ count_by (λ y. q == y) xs
 some_count q [] is = absurd cc
@@ -164,15 +164,17 @@ taken_counted m live b c one is counted =
     let more : (c.holders == 0) ≡ false = grind (arith, nat_tests, one) in
     let size = length (blocks_in c.runs) in
     let now = ap {B = ℕ} (λ t. cond t 0 size) more in
-    let left = λ (f : Counted → ℕ). sum-remove nat_cmp nat_cmp_total nat_cmp-IsAntisymmetric f m b in
-    (omega (arith, left live_in, ap (weight live_in) is, counted.live, now, own), record {
-      sizes = λ q e at. elim (eq_by_cmp nat_cmp q b) as (λ t. cond t None (fin.get m q) ≡ Some e → e.blocks ≡ length (blocks_in e.runs)) [
-        | true ↦ λ none. absurd (not_some e none)
-        | false ↦ λ now. counted.sizes q e now
-      ] (sym (get-remove nat_cmp_total m b q) ∙ at);
-      once = λ block. omega (arith, counted.once block, left (times block));
-      live = omega (arith, left live_in, ap (weight live_in) is, counted.live, now, own);
-    })
+    let left = λ (f : Counted → ℕ). sum-remove nat_cmp nat_cmp_total nat_cmp-IsAntisymmetric f m b in (
+      omega (arith, left live_in, ap (weight live_in) is, counted.live, now, own),
+      record {
+        sizes = λ q e at. elim (eq_by_cmp nat_cmp q b) as (λ t. cond t None (fin.get m q) ≡ Some e → e.blocks ≡ length (blocks_in e.runs)) [
+          | true ↦ λ none. absurd (not_some e none)
+          | false ↦ λ now. counted.sizes q e now
+        ] (sym (get-remove nat_cmp_total m b q) ∙ at);
+        once = λ block. omega (arith, counted.once block, left (times block));
+        live = omega (arith, left live_in, ap (weight live_in) is, counted.live, now, own);
+      },
+    )
 
 -- free runs have no more than 2^32 blocks
 pub few_blocks : (m : CountedMap) (runs : List Run) → IsFree m runs → length (blocks_in runs) ≤ 2 ^ 32
@@ -207,9 +209,9 @@ none_counted_in q (x ∷ xs) none =
 
 pub stands_in : (q : ℕ) (xs : List ℕ) → 1 ≤ count_by (λ y. q == y) xs → has_birth xs q ≡ true
 stands_in q xs some = elim (has_birth xs q) as (λ t. has_birth xs q ≡ t → t ≡ true) [
-    | true ↦ λ _. refl
-    | false ↦ λ none. absurd (omega (arith, some, none_counted_in q xs none))
-  ] refl
+  | true ↦ λ _. refl
+  | false ↦ λ none. absurd (omega (arith, some, none_counted_in q xs none))
+] refl
 
 others : (x : ℕ) (ys : List ℕ) → AllByRecursion (λ y. eqb x y ≡ false) ys → count_by (λ y. x == y) ys ≡ 0
 others x [] none = refl
@@ -312,9 +314,10 @@ released_more m xs k less =
 
 pub last_more : (m : CountedMap) (xs : List ℕ) (k : ℕ) → k < length xs → (length (last_held m (take (k + 1) xs)) ≡ length (last_held m (take k xs)) + cond (holders_in (fin.get m (get_or xs k 0)) == 1) 1 0) × (length (last_held m (take (k + 1) xs)) ≤ length (last_held m xs))
 last_more m xs k less =
-    let p : ℕ → Bool = λ b. holders_in (fin.get m b) == 1 in
-    (length-filter_more p xs k 0 less,
-      omega (arith, length-filter p (take (k + 1) xs), length-filter p xs, sum_by-take-le (λ x. cond (p x) 1 0) xs (k + 1)))
+    let p : ℕ → Bool = λ b. holders_in (fin.get m b) == 1 in (
+      length-filter_more p xs k 0 less,
+      omega (arith, length-filter p (take (k + 1) xs), length-filter p xs, sum_by-take-le (λ x. cond (p x) 1 0) xs (k + 1)),
+    )
 
 pub last_few : (m : CountedMap) (xs : List ℕ) (k : ℕ) → k ≤ length xs → length (last_held m (take k xs)) ≤ k
 last_few m xs k le =

@@ -1,12 +1,12 @@
 -- The ledger of the tests.
-use Rattle.std.proofs.Common.{◌≡◌, ℕ, ◌<◌, ◌^◌, Bool, true, false, cond, eqb, List, [], ◌∷◌, ◌++◌, map, Option, Some, None, refl, sym, ap, subst, ◌∙◌, arith}
-use Rattle.std.specs.Prelude.{All, AllPairs, Contains, IsSome, not, flat_map, ◌==◌}
+use Rattle.std.proofs.Common.{◌≡◌, ℕ, ◌<◌, ◌^◌, Bool, true, false, cond, List, [], ◌∷◌, map, None, refl, sym, ap, subst, ◌∙◌, arith}
+use Rattle.std.specs.Prelude.{Contains, IsSome, not, flat_map, ◌==◌}
 use Rattle.std.specs.List.{filter}
 use Rattle.std.specs.Option.{unwrap_or}
-use Rattle.std.specs.Ordering.{nat_cmp, eq_by_cmp}
+use Rattle.std.specs.Ordering.{nat_cmp}
 use Rattle.std.specs.Cmp.{nat_cmp_total, nat_eq_equiv}
 use Rattle.std.specs.FinMap as fin
-use Rattle.std.specs.FinMap.{nat_cmp-IsAntisymmetric, get-empty, get-insert, get-retain_keys, entries-insert, entries}
+use Rattle.std.specs.FinMap.{nat_cmp-IsAntisymmetric, get-empty, get-insert, get-retain_keys, entries-insert}
 use Rattle.std.specs.FinMap.Entries.{put}
 use Rattle.std.proofs.lemmas.List.Elements.{All-from_recursion}
 use Rattle.std.proofs.lemmas.Map.Views.{list_any-from_Contains}
@@ -58,9 +58,9 @@ second_free e p first none is = ap (λ m. fin.get m 2) is ∙ get-insert nat_cmp
 
 pub two_placed : (e p q : Places) (first second : List Run) → p ≡ fin.insert e 1 first → q ≡ fin.insert p 2 second → HasTwoPlaces q
 two_placed e p q first second p-is q-is = (
-    subst IsSome (sym (ap (λ m. fin.get m 1) q-is ∙ get-insert nat_cmp_total p 2 second 1 ∙ ap (λ m. fin.get m 1) p-is ∙ get-insert nat_cmp_total e 1 first 1)) refl,
-    subst IsSome (sym (ap (λ m. fin.get m 2) q-is ∙ get-insert nat_cmp_total p 2 second 2)) refl,
-  )
+  subst IsSome (sym (ap (λ m. fin.get m 1) q-is ∙ get-insert nat_cmp_total p 2 second 1 ∙ ap (λ m. fin.get m 1) p-is ∙ get-insert nat_cmp_total e 1 first 1)) refl,
+  subst IsSome (sym (ap (λ m. fin.get m 2) q-is ∙ get-insert nat_cmp_total p 2 second 2)) refl,
+)
 
 -- where nobody holds anything, a hold hands nothing out
 pub still_placed : (l : LedgerView) (holder : Holder) (births : List ℕ) (b : ℕ) → l.holdings ≡ fin.empty → IsSome (fin.get l.places b) → IsSome (fin.get (with_held l holder births).places b)

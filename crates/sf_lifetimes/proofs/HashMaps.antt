@@ -1,12 +1,12 @@
 -- The finite map of a hash map's entries.
-use Rattle.std.proofs.Common.{◌≡◌, ℕ, ◌+◌, ◌≤◌, Bool, true, false, cond, List, [], ◌∷◌, length, Option, Some, None, refl, sym, ap, ◌∙◌, arith}
+use Rattle.std.proofs.Common.{◌≡◌, ℕ, ◌+◌, ◌≤◌, Bool, true, false, cond, List, [], ◌∷◌, length, Some, None, refl, sym, ap, ◌∙◌, arith}
 use Rattle.std.specs.Ordering.{eq_by_cmp}
 use Rattle.std.specs.Cmp.{IsTotalOrder, eq_by_cmp_equiv}
 use Rattle.std.specs.declared.cmp.Ordering.{Ordering}
 use Rattle.std.specs.Map.{lookup}
-use Rattle.std.specs.HashMap.{HashMap, get, UpdatesBy, IsReordered}
+use Rattle.std.specs.HashMap.{HashMap, get}
 use Rattle.std.specs.FinMap as fin
-use Rattle.std.specs.FinMap.{IsAntisymmetric, same_map, get-from_entries, get-insert, get-remove, get-empty, len-insert}
+use Rattle.std.specs.FinMap.{IsAntisymmetric, same_map, get-from_entries, get-insert, get-remove, len-insert}
 use Rattle.std.specs.FinMap.Entries.{find}
 
 find_is : {K X : Type 0} (R : K → K → Ordering) (eq : K → K → Bool) → ((a b : K) → eq a b ≡ eq_by_cmp R a b) → (es : List (K × X)) (q : K) → find R q es ≡ lookup (eq q) es

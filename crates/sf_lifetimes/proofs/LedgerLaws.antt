@@ -1,12 +1,10 @@
 -- What counts say of a ledger.
-use Rattle.std.proofs.Common.{◌≡◌, ℕ, ◌+◌, ◌-◌, ◌^◌, ◌≤◌, ◌<◌, Bool, true, false, cond, eqb, List, [], ◌∷◌, length, map, Option, Some, None, refl, sym, ap, subst, ◌∙◌, arith}
+use Rattle.std.proofs.Common.{◌≡◌, ℕ, ◌+◌, ◌-◌, ◌^◌, ◌≤◌, ◌<◌, Bool, true, false, cond, List, [], ◌∷◌, length, map, Option, Some, None, refl, sym, ap, subst, ◌∙◌, arith}
 use Rattle.std.specs.Prelude.{◌==◌, ◌&&◌, ◌||◌, not, T, is_some, IsSome, nat_le, nat_lt, ◌≢◌, All, AllPairs, Contains, flat_map}
-use Rattle.std.specs.List.{filter, list_any, sum_by, count_by, AllByRecursion}
+use Rattle.std.specs.List.{filter, sum_by, count_by, AllByRecursion}
 use Rattle.std.specs.Option.{unwrap_or, option_map}
 use Rattle.std.specs.Ordering.{nat_cmp, is_lt, is_eq, eq_by_cmp}
 use Rattle.std.specs.Cmp.{nat_cmp_total, nat_eq_equiv}
-use Rattle.std.specs.declared.cmp.Ordering.{Ordering}
-use Rattle.std.specs.declared.cmp.Ordering.TheVariants.{Equal}
 use Rattle.std.specs.FinMap as fin
 use Rattle.std.specs.FinMap.{nat_cmp-IsAntisymmetric, same_map, entries, entries_sorted, entries-from_sorted, get-entries, get-from_sorted, get-retain_keys, get-empty, get-insert}
 use Rattle.std.specs.FinMap.Entries.{find, is_sorted, below_all}
@@ -24,8 +22,8 @@ use Rattle.sf_lifetimes.specs.declared.place_map.Counted.{Counted}
 use Rattle.sf_lifetimes.specs.Holders.{holder_cmp, holder_cmp_total, holder_cmp-IsAntisymmetric}
 use Rattle.sf_lifetimes.specs.Counts.{CountedMap, AreExchanged, AreFew, AreHeld, raised, released, has_birth, holders_in, runs_in, left_over, runs_of, live_in, live_sum, unheld_place, times, IsFree}
 use Rattle.sf_lifetimes.specs.Counted.{places_in, IsCountedBy}
-use Rattle.sf_lifetimes.specs.Ledgers.{LedgerView, Places, Holdings, held_by, number_of_holders, with_births, unheld, with_held, handed_out, live_blocks, place_of, placed_blocks, IsNewPlace}
-use Rattle.sf_lifetimes.proofs.Sums.{weight, sum-insert, sum-remove, no_values, no_entries, find-below, below-tied, first, second, equal}
+use Rattle.sf_lifetimes.specs.Ledgers.{Holdings, held_by, number_of_holders, with_births, unheld, live_blocks, place_of, placed_blocks, IsNewPlace}
+use Rattle.sf_lifetimes.proofs.Sums.{weight, sum-insert, sum-remove, no_values, find-below, below-tied, first, second, equal}
 use Rattle.sf_lifetimes.proofs.CountLaws.{with_holders, not_some, named_once, none_counted_in, stands_in}
 use Rattle.sf_lifetimes.proofs.ExchangeLaws.{raised_at, exchanged_count}
 
@@ -104,9 +102,10 @@ placed None is = is
 placed (Some c) is = refl
 
 pub are_few : (m : CountedMap) (holdings : Holdings) (births : List ℕ) → IsCountedBy m holdings → fin.len holdings < 2 ^ 63 → All (λ b. IsSome (fin.get (places_in m) b)) births → AreFew m births
-are_few m holdings births counted few all b is =
-    (placed (fin.get m b) (subst IsSome (get_places m b) (is_at (λ b. IsSome (fin.get (places_in m) b)) b births (recursion_from_All (λ b. IsSome (fin.get (places_in m) b)) births all) is)),
-      omega (arith, counted b, few, few_holders holdings b))
+are_few m holdings births counted few all b is = (
+  placed (fin.get m b) (subst IsSome (get_places m b) (is_at (λ b. IsSome (fin.get (places_in m) b)) b births (recursion_from_All (λ b. IsSome (fin.get (places_in m) b)) births all) is)),
+  omega (arith, counted b, few, few_holders holdings b),
+)
 
 -- ---- what it leaves
 pub counted_after : (m p : CountedMap) (holdings : Holdings) (holder : Holder) (births : List ℕ) → IsCountedBy m holdings → AreFew m births → AreExchanged m (held_by holdings holder) births p → IsCountedBy p (with_births holdings holder births)
@@ -135,8 +134,8 @@ one_and_none x y is = ap (λ n. n == 1) (sym is) ∙ tests y
 pub left_is_unheld : (m : CountedMap) (holdings : Holdings) (holder : Holder) (births : List ℕ) → IsCountedBy m holdings → left_over m births (held_by holdings holder) ≡ unheld holdings holder births
 left_is_unheld m holdings holder births counted =
     filter_on _ _ (held_by holdings holder) (λ b is.
-      one_and_none (holders_in (fin.get m b) + holds b births) (number_of_holders b (with_births holdings holder births))
-      (omega (arith, counted b, number_changes holdings holder births b, ap {B = ℕ} (λ t. cond t 1 0) is)))
+    one_and_none (holders_in (fin.get m b) + holds b births) (number_of_holders b (with_births holdings holder births))
+    (omega (arith, counted b, number_changes holdings holder births b, ap {B = ℕ} (λ t. cond t 1 0) is)))
 
 runs_same : (t : Bool) (x : Option Counted) → runs_at (cond t (raised x) x) ≡ runs_at x
 runs_same true None = refl
@@ -153,6 +152,7 @@ release_runs (Some c) some =
   where
     one : (h : ℕ) → nat_le h 1 ≡ true → 1 ≤ h → (h == 1) ≡ true
     one h is some = grind (arith, nat_tests, is, some)
+
     more : (h : ℕ) → nat_le h 1 ≡ false → (h == 1) ≡ false
     more h is = grind (arith, nat_tests, is)
 
@@ -254,9 +254,9 @@ placed_times block (e ∷ es) =
 
 not_contained : (q : ℕ) (xs : List ℕ) → ¬ (Contains xs q) → has_birth xs q ≡ false
 not_contained q xs none = elim (has_birth xs q) as (λ t. has_birth xs q ≡ t → t ≡ false) [
-    | true ↦ λ t. absurd (none (Contains-from_any exact_unsigned_eq q xs t))
-    | false ↦ λ _. refl
-  ] refl
+  | true ↦ λ t. absurd (none (Contains-from_any exact_unsigned_eq q xs t))
+  | false ↦ λ _. refl
+] refl
 
 below_bound : (q n : ℕ) → q < n → nat_lt q n ≡ true
 below_bound q n less = grind (arith, nat_tests, less)
@@ -275,6 +275,7 @@ new_is_free m runs new block =
     let xs = blocks_in runs in
     let all = placed_blocks (places_in m) in
     let times_all : count_by (λ y. block == y) all ≡ sum_by (times block) (fin.values m) =
-      ap (λ (es : List (ℕ × List Run)). count_by (λ y. block == y) (flat_map blocks_in (map (λ e. e.1) es))) (entries_places m) ∙ placed_times block (entries m) in
-    (named_fit xs new.below new.once block,
-      λ some. omega (arith, times_all, none_counted_in block all (not_contained block all (is_at (λ b. ¬ (Contains all b)) block xs (recursion_from_All (λ b. ¬ (Contains all b)) xs new.apart) (stands_in block xs some)))))
+    ap (λ (es : List (ℕ × List Run)). count_by (λ y. block == y) (flat_map blocks_in (map (λ e. e.1) es))) (entries_places m) ∙ placed_times block (entries m) in (
+      named_fit xs new.below new.once block,
+      λ some. omega (arith, times_all, none_counted_in block all (not_contained block all (is_at (λ b. ¬ (Contains all b)) block xs (recursion_from_All (λ b. ¬ (Contains all b)) xs new.apart) (stands_in block xs some)))),
+    )

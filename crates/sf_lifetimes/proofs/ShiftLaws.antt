@@ -1,9 +1,9 @@
 -- What shifts leave.
-use Rattle.std.proofs.Common.{◌≡◌, ℕ, ◌+◌, ◌^◌, ◌≤◌, ◌<◌, Bool, true, false, cond, List, [], ◌∷◌, ◌++◌, length, map, flat_map, Option, Some, None, refl, sym, ap, subst, ◌∙◌, arith}
-use Rattle.std.specs.Prelude.{◌==◌, T, All, AllPairs, nat_lt}
+use Rattle.std.proofs.Common.{◌≡◌, ℕ, Bool, true, false, cond, List, [], ◌∷◌, ◌++◌, length, map, flat_map, Option, Some, None, refl, sym, ap, subst, ◌∙◌, arith}
+use Rattle.std.specs.Prelude.{◌==◌, T}
 use Rattle.std.specs.List.{sum_by, count_by}
 use Rattle.std.specs.Option.{option_map}
-use Rattle.std.specs.Ordering.{nat_cmp, eq_by_cmp}
+use Rattle.std.specs.Ordering.{nat_cmp}
 use Rattle.std.specs.Cmp.{nat_cmp_total, unsigned_ties}
 use Rattle.std.specs.FinMap as fin
 use Rattle.std.specs.FinMap.{nat_cmp-IsAntisymmetric, entries, entries_sorted, get-entries, get-insert}
@@ -15,7 +15,7 @@ use Rattle.sf_shrink.specs.Plans.{shifted_blocks}
 use Rattle.sf_lifetimes.specs.declared.place_map.Counted.{Counted}
 use Rattle.sf_lifetimes.specs.Counts.{CountedMap, IsCounted, holders_in, live_in, live_sum, times}
 use Rattle.sf_lifetimes.specs.Counted.{places_in, IsCountedBy}
-use Rattle.sf_lifetimes.specs.Ledgers.{Places, Holdings}
+use Rattle.sf_lifetimes.specs.Ledgers.{Holdings}
 use Rattle.sf_lifetimes.specs.Shifts.{AreSafeShifts, moved, shifted}
 use Rattle.sf_lifetimes.proofs.Sums.{weight, sum-le}
 use Rattle.sf_lifetimes.proofs.CountLaws.{same_number}

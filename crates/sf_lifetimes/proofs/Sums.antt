@@ -1,9 +1,9 @@
 -- Sums over the values of a finite map.
 use Rattle.std.proofs.Common.{◌≡◌, ℕ, ◌+◌, ◌≤◌, Bool, true, false, cond, List, [], ◌∷◌, length, map, Option, Some, None, refl, sym, ap, subst, ◌∙◌, arith}
-use Rattle.std.specs.Prelude.{T, ◌&&◌, not}
+use Rattle.std.specs.Prelude.{T, ◌&&◌}
 use Rattle.std.specs.List.{sum_by}
 use Rattle.std.specs.Ordering.{eq_by_cmp, is_lt, is_eq}
-use Rattle.std.specs.Cmp.{IsTotalOrder, eq_by_cmp_equiv}
+use Rattle.std.specs.Cmp.{IsTotalOrder}
 use Rattle.std.specs.declared.cmp.Ordering.{Ordering}
 use Rattle.std.specs.declared.cmp.Ordering.TheVariants.{Less, Equal, Greater}
 use Rattle.std.proofs.lemmas.List.Sums.{sum_by-cons}
@@ -113,11 +113,11 @@ sum-le R o same f g [] n sorted le = omega arith
 sum-le {K} {X} R o same f g (e ∷ es) n sorted le =
     let own : f e.1 ≤ weight g (get n e.0) = subst (λ (x : Option X). weight f x ≤ weight g (get n e.0)) (ap (λ r. cond (is_eq r) (Some e.1) (find R e.0 es)) (tied_itself o e.0)) (le e.0) in
     let rest = sum-le R o same f g es (fin.remove n e.0) (second _ _ sorted) (λ q.
-      subst (λ y. weight f (find R q es) ≤ weight g y) (sym (get-remove o n e.0 q))
-      (elim (eq_by_cmp R q e.0) as (λ t. eq_by_cmp R q e.0 ≡ t → weight f (cond t (Some e.1) (find R q es)) ≤ weight g (get n q) → weight f (find R q es) ≤ weight g (cond t None (get n q))) [
-        | true ↦ λ t _. omega (arith, ap (weight f) (find-below R o q es (below-tied R o q e.0 es (equal _ t) (first _ _ sorted))))
-        | false ↦ λ t fits. fits
-      ] refl (le q))) in
+    subst (λ y. weight f (find R q es) ≤ weight g y) (sym (get-remove o n e.0 q))
+    (elim (eq_by_cmp R q e.0) as (λ t. eq_by_cmp R q e.0 ≡ t → weight f (cond t (Some e.1) (find R q es)) ≤ weight g (get n q) → weight f (find R q es) ≤ weight g (cond t None (get n q))) [
+      | true ↦ λ t _. omega (arith, ap (weight f) (find-below R o q es (below-tied R o q e.0 es (equal _ t) (first _ _ sorted))))
+      | false ↦ λ t fits. fits
+    ] refl (le q))) in
     omega (arith, own, rest, sum_by-cons f e.1 (map (λ (e : K × X). e.1) es), sum-remove R o same g n e.0)
 
 no_length : {A : Type 0} (xs : List A) → length xs ≡ 0 → xs ≡ []

@@ -1,12 +1,10 @@
 -- What is freed as holders are counted off.
-use Rattle.std.proofs.Common.{◌≡◌, ℕ, zero, suc, ◌+◌, ◌-◌, ◌^◌, ◌≤◌, ◌<◌, Bool, true, false, cond, List, [], ◌∷◌, length, map, take, get_or, Option, Some, None, refl, sym, ap, subst, ◌∙◌, arith}
+use Rattle.std.proofs.Common.{◌≡◌, ℕ, zero, suc, ◌+◌, ◌-◌, ◌≤◌, ◌<◌, true, false, cond, List, [], ◌∷◌, length, map, take, get_or, Option, Some, None, refl, sym, ap, subst, ◌∙◌, arith}
 use Rattle.std.specs.Prelude.{◌==◌, ◌&&◌, ◌||◌, ◌≢◌, T, AllPairs}
-use Rattle.std.specs.List.{sum_by, count_by, AllByRecursion}
-use Rattle.std.specs.Ordering.{nat_cmp, is_lt, is_eq, eq_by_cmp}
+use Rattle.std.specs.List.{sum_by, AllByRecursion}
+use Rattle.std.specs.Ordering.{nat_cmp, is_lt, eq_by_cmp}
 use Rattle.std.specs.Option.{unwrap_or}
 use Rattle.std.specs.Cmp.{nat_cmp_total}
-use Rattle.std.specs.declared.cmp.Ordering.{Ordering}
-use Rattle.std.specs.declared.cmp.Ordering.TheVariants.{Equal}
 use Rattle.std.specs.FinMap as fin
 use Rattle.std.specs.FinMap.{FinMap, nat_cmp-IsAntisymmetric, entries, entries_sorted, entries-from_sorted, get-entries, get-from_sorted, get-remove}
 use Rattle.std.specs.FinMap.Entries.{find, is_sorted, below_all}
@@ -25,7 +23,7 @@ use Rattle.sf_lifetimes.specs.Ledgers.{Places, Holdings, held_by, number_of_hold
 use Rattle.sf_lifetimes.specs.Tallies.{Tallies, freed_in, freed_sum, left_of, counted_off, tally_of, number_among}
 use Rattle.sf_lifetimes.specs.Bounds.{IsBounded, freed_at, live_at}
 use Rattle.sf_lifetimes.proofs.Sums.{weight, sum-remove, sum-le, weight-le, equal}
-use Rattle.sf_lifetimes.proofs.LedgerLaws.{runs_at, get_places, holds, weight_held, holds_one}
+use Rattle.sf_lifetimes.proofs.LedgerLaws.{runs_at, get_places, holds, weight_held}
 
 -- a birth with a holder left has freed nothing
 pub none_freed : (x : Option Tally) (holders : ℕ) → 1 ≤ left_of x holders → weight freed_in x ≡ 0
@@ -206,6 +204,6 @@ pub freed_is : (t : Tallies) (m : CountedMap) (h : Holdings) (holders : List Hol
     → freed_sum t ≡ freed_by (record { places = places_in m; holdings = h }) holders
 freed_is t m h holders counted once is =
     same_sums (λ e. cond (number_of_holders e.0 h == 0) 0 (cond (number_of_holders e.0 (without h holders) == 0) (length (blocks_in e.1)) 0)) t (places_in m) (λ q.
-      ap (weight freed_in) (is q)
-      ∙ freed_point (fin.get m q) (number_of_holders q h) (number_among h holders q) (number_of_holders q (without h holders)) (counted q) (among_and_others h holders q once)
-      ∙ ap (weight (λ r. cond (number_of_holders q h == 0) 0 (cond (number_of_holders q (without h holders) == 0) (length (blocks_in r)) 0))) (sym (get_places m q)))
+    ap (weight freed_in) (is q)
+    ∙ freed_point (fin.get m q) (number_of_holders q h) (number_among h holders q) (number_of_holders q (without h holders)) (counted q) (among_and_others h holders q once)
+    ∙ ap (weight (λ r. cond (number_of_holders q h == 0) 0 (cond (number_of_holders q (without h holders) == 0) (length (blocks_in r)) 0))) (sym (get_places m q)))

@@ -1,6 +1,5 @@
 -- What counts say of a ledger.
-use Rattle.std.specs.Prelude.{◌≡◌, ℕ, List, map}
-use Rattle.std.specs.Ordering.{nat_cmp}
+use Rattle.std.specs.Prelude.{◌≡◌, ℕ, map}
 use Rattle.std.specs.FinMap as fin
 use Rattle.sf_lifetimes.specs.Counts.{CountedMap, holders_in}
 use Rattle.sf_lifetimes.specs.Ledgers.{Places, Holdings, number_of_holders}

@@ -1,5 +1,5 @@
 -- Places with the number of their holders.
-use Rattle.std.specs.Prelude.{◌≡◌, ℕ, ◌+◌, ◌-◌, ◌≤◌, ◌<◌, ◌^◌, Bool, true, cond, is_some, nat_lt, nat_le, ◌==◌, List, [], ◌∷◌, map, length, Option, Some, None}
+use Rattle.std.specs.Prelude.{◌≡◌, ℕ, ◌+◌, ◌-◌, ◌≤◌, ◌<◌, ◌^◌, Bool, true, cond, is_some, nat_lt, nat_le, ◌==◌, List, [], map, length, Option, Some, None}
 use Rattle.std.specs.List.{list_any, sum_by, count_by, filter}
 use Rattle.std.specs.Ordering.{nat_cmp}
 use Rattle.std.specs.FinMap as fin

@@ -1,6 +1,6 @@
 -- Holders, told apart by lists of numbers.
 use Rattle.std.specs.Prelude.{◌≡◌, ℕ, true, List, [], ◌∷◌, ◌++◌, nat_eq}
-use Rattle.std.proofs.Common.{ap, sym, subst, refl, arith, drop, get_or, ◌∙◌}
+use Rattle.std.proofs.Common.{ap, sym, refl, get_or, ◌∙◌}
 use Rattle.std.specs.Hash as fed
 use Rattle.std.specs.Ordering.{nat_cmp, on, is_eq}
 use Rattle.std.specs.Cmp.{IsTotalOrder, on_total}

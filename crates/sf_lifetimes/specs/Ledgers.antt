@@ -1,6 +1,6 @@
 -- The places of births and the births of holders.
-use Rattle.std.specs.Prelude.{◌≡◌, ◌≢◌, ℕ, ◌+◌, ◌<◌, ◌≤◌, ◌^◌, Bool, true, not, ◌==◌, cond, refl, List, [], ◌∷◌, ◌++◌, map, length, flat_map, All, AllPairs, Contains, Option, Some, None, IsSome, IsOk, OnErr, Result}
-use Rattle.std.specs.List.{list_any, sum_by, count_by, filter}
+use Rattle.std.specs.Prelude.{◌≡◌, ◌≢◌, ℕ, ◌+◌, ◌<◌, ◌≤◌, ◌^◌, not, ◌==◌, cond, List, [], ◌∷◌, map, length, flat_map, All, AllPairs, Contains, Option, None, IsOk, OnErr, Result}
+use Rattle.std.specs.List.{sum_by, count_by, filter}
 use Rattle.std.specs.Option.{unwrap_or}
 use Rattle.std.specs.Ordering.{nat_cmp}
 use Rattle.std.specs.FinMap as fin

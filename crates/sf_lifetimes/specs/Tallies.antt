@@ -1,5 +1,5 @@
 -- How many holders of a birth are left as holders are counted off.
-use Rattle.std.specs.Prelude.{◌≡◌, ℕ, ◌+◌, ◌-◌, ◌≤◌, ◌==◌, cond, List, length, Option, Some, None}
+use Rattle.std.specs.Prelude.{ℕ, ◌-◌, ◌==◌, cond, List, length, Option, Some, None}
 use Rattle.std.specs.List.{sum_by, count_by}
 use Rattle.std.specs.Ordering.{nat_cmp}
 use Rattle.std.specs.FinMap as fin
@@ -7,7 +7,7 @@ use Rattle.sf_types.specs.Placings.{blocks_in}
 use Rattle.sf_lifetimes.specs.declared.holder.Holder.{Holder}
 use Rattle.sf_lifetimes.specs.declared.place_map.Counted.{Counted}
 use Rattle.sf_lifetimes.specs.declared.tally.Tally.{Tally}
-use Rattle.sf_lifetimes.specs.Counts.{CountedMap, has_birth, holders_in, runs_in, live_in}
+use Rattle.sf_lifetimes.specs.Counts.{has_birth, holders_in, runs_in}
 use Rattle.sf_lifetimes.specs.Ledgers.{Holdings, held_by}
 
 abbrev pub Tallies : Type 0

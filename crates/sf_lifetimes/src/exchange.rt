@@ -13,12 +13,7 @@ use sf_types::{Mem, RunsList};
 
 // One holder more at each of the new births, and room for the places that the old ones then give. For want of memory
 // nothing has changed.
-fn raise_new(
-    places: &mut PlaceMap,
-    old: &[u128],
-    new: &[u128],
-    into: &mut RunsList,
-) -> Mem<()>
+fn raise_new(places: &mut PlaceMap, old: &[u128], new: &[u128], into: &mut RunsList) -> Mem<()>
     requires new { IsRising new.now }
     requires few { AreFew places.old.held new.now }
     ensures done { length (left_over places.old.held new.now old.now) ≤ into.old.spare → IsOk result }
@@ -41,12 +36,7 @@ fn raise_new(
 
 // One holder more at each of the new births, and then one fewer at each of the old ones, whose places go into a list
 // where that was the last. For want of memory nothing has changed.
-pub fn exchange(
-    places: &mut PlaceMap,
-    old: &[u128],
-    new: &[u128],
-    into: &mut RunsList,
-) -> Mem<()>
+pub fn exchange(places: &mut PlaceMap, old: &[u128], new: &[u128], into: &mut RunsList) -> Mem<()>
     requires old { IsRising old.now }
     requires new { IsRising new.now }
     requires held { AreHeld places.old.held old.now }

@@ -24,7 +24,6 @@ impl Model for HolderMap {
     ghost use Rattle.std.specs.HashMap.{spare};
     ghost use Rattle.sf_types.specs.Rooms.{Roomy};
     ghost use Rattle.sf_lifetimes.specs.Holders.{holder_cmp};
-
     ghost use Rattle.std.specs.Coded.{coded_ℕ, coded_list};
     ghost use Rattle.sf_lifetimes.specs.contracts.holder.Holder as holder;
     ghost use Rattle.sf_lifetimes.specs.Codes.{roomy_code};

@@ -82,7 +82,6 @@ impl Model for PlaceMap {
     ghost use Rattle.std.specs.HashMap.{spare};
     ghost use Rattle.sf_types.specs.Rooms.{Roomy};
     ghost use Rattle.sf_lifetimes.specs.Counts.{CountedMap, IsCounted};
-
     ghost use Rattle.sf_lifetimes.specs.contracts.place_map.Counted as counted;
     ghost use Rattle.sf_lifetimes.specs.Codes.{roomy_code};
 

@@ -1,4 +1,4 @@
-use Rattle.std.proofs.Common.{◌≡◌, ◌∙◌, ap, sym, subst, arith, rules, length}
+use Rattle.std.proofs.Common.{ap, subst, arith, length}
 use Rattle.std.specs.Prelude.{IsOk}
 use Rattle.sf_lifetimes.proofs.ExchangeLaws.{last_is_left, raised_and_lowered}
 use Rattle.sf_lifetimes.proofs.exchange.raise_new.Goals as goal

@@ -1,11 +1,10 @@
-use Rattle.std.proofs.Common.{◌≡◌, ◌∙◌, ap, sym, subst, refl, Some, None, cond}
-use Rattle.std.specs.Prelude.{IsSome, ◌==◌}
+use Rattle.std.proofs.Common.{◌∙◌, ap, sym, subst, refl}
+use Rattle.std.specs.Prelude.{IsSome}
 use Rattle.std.specs.Option.{option_copied_mut}
 use Rattle.std.specs.Ordering.{nat_cmp}
 use Rattle.std.specs.FinMap as fin
 use Rattle.sf_lifetimes.specs.declared.place_map.Counted.{Counted}
 use Rattle.sf_lifetimes.specs.Counts.{CountedMap}
-use Rattle.sf_lifetimes.specs.Shifts.{moved}
 use Rattle.sf_lifetimes.proofs.ByBirth.{get_is, put_at}
 use Rattle.sf_lifetimes.proofs.ShiftLaws.{moved_some, moved_none}
 use Rattle.sf_lifetimes.proofs.place_map.shift_one.Goals as goal

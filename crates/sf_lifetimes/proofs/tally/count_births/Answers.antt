@@ -1,7 +1,6 @@
-use Rattle.std.proofs.Common.{◌≡◌, ◌∙◌, ◌≤◌, ◌-◌, ap, sym, subst, arith, cond, get_or, Some, Option, ℕ}
+use Rattle.std.proofs.Common.{◌∙◌, ◌-◌, ap, arith, cond, get_or, Some}
 use Rattle.std.specs.Prelude.{◌==◌}
 use Rattle.std.specs.FinMap as fin
-use Rattle.sf_lifetimes.specs.declared.tally.Tally.{Tally}
 use Rattle.sf_lifetimes.specs.Counts.{holders_in}
 use Rattle.sf_lifetimes.specs.Tallies.{left_of, counted_off}
 use Rattle.sf_lifetimes.proofs.CountLaws.{point_same, point_next, has_own}
@@ -37,8 +36,8 @@ loop-birth-preserved c =
     let s = c.loop-birth.tally in
     record {
       counted = point_next (λ q t. counted_off (fin.get P q) t) (fin.get c.args.tally.now) (fin.get s) (fin.get c.count.new.self) births k c.requires.rising c.loop-birth-test.true c.loop-birth.invariant.counted (λ q.
-        c.in_ok-count.ensures q
-        ∙ ap (λ n. cond (q == b) (Some (record { left = left_of (fin.get s b) n - 1; blocks = c.blocks_of.result })) (fin.get s q)) c.holders_of-holders.ensures
-        ∙ ap (λ n. cond (q == b) (Some (record { left = left_of (fin.get s b) (holders_in (fin.get P b)) - 1; blocks = n })) (fin.get s q)) c.blocks_of.ensures);
+          c.in_ok-count.ensures q
+          ∙ ap (λ n. cond (q == b) (Some (record { left = left_of (fin.get s b) n - 1; blocks = c.blocks_of.result })) (fin.get s q)) c.holders_of-holders.ensures
+          ∙ ap (λ n. cond (q == b) (Some (record { left = left_of (fin.get s b) (holders_in (fin.get P b)) - 1; blocks = n })) (fin.get s q)) c.blocks_of.ensures);
       few = c.loop-birth.invariant.few;
     }

@@ -1,4 +1,4 @@
-use Rattle.std.proofs.Common.{◌≡◌, ◌∙◌, ◌≤◌, ap, sym, subst, arith, cond, take, get_or, take_all, ℕ, true}
+use Rattle.std.proofs.Common.{◌∙◌, ◌≤◌, ap, sym, subst, arith, cond, take, take_all}
 use Rattle.std.specs.Ordering.{nat_cmp}
 use Rattle.std.specs.FinMap as fin
 use Rattle.std.specs.FinMap.{get-empty}
@@ -51,4 +51,4 @@ returns c =
     let m = c.args.places.now.held in
     let all = take_all c.loop-holder.holder-index c.args.holders.now c.loop-holder-test.false in
     c.freed.ensures ∙ freed_is c.loop-holder.tally m h c.args.holders.now c.requires.counted c.requires.once (λ q.
-      c.loop-holder.invariant q ∙ ap (λ hs. tally_of (fin.get m q) (number_among h hs q)) all)
+    c.loop-holder.invariant q ∙ ap (λ hs. tally_of (fin.get m q) (number_among h hs q)) all)

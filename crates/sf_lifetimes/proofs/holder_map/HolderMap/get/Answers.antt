@@ -1,4 +1,4 @@
-use Rattle.std.proofs.Common.{◌≡◌, ◌∙◌, ap, sym, rules, arith}
+use Rattle.std.proofs.Common.{◌∙◌, ap, sym}
 use Rattle.std.specs.FinMap as fin
 use Rattle.sf_lifetimes.proofs.ByHolder.{get_is}
 use Rattle.sf_lifetimes.proofs.holder_map.HolderMap.get.Goals as goal

@@ -1,4 +1,4 @@
-use Rattle.std.proofs.Common.{◌≡◌, ◌∙◌, ap, sym, rules, arith}
+use Rattle.std.proofs.Common.{◌∙◌, ap}
 use Rattle.std.specs.FinMap as fin
 use Rattle.sf_lifetimes.proofs.ByHolder.{put_at}
 use Rattle.sf_lifetimes.proofs.holder_map.HolderMap.insert.Goals as goal

@@ -1,7 +1,6 @@
-use Rattle.std.proofs.Common.{◌≡◌, ◌∙◌, ap, sym, rules, arith}
+use Rattle.std.proofs.Common.{ap, arith}
 use Rattle.std.specs.FinMap as fin
-use Rattle.std.specs.HashMap.{hash_map_len}
-use Rattle.sf_lifetimes.specs.Holders.{holder_cmp, holder_cmp_total, holder_cmp-IsAntisymmetric}
+use Rattle.sf_lifetimes.specs.Holders.{holder_cmp, holder_cmp_total}
 use Rattle.sf_lifetimes.proofs.HashMaps.{len-le}
 use Rattle.sf_lifetimes.proofs.holder_map.HolderMap.len.Goals as goal
 

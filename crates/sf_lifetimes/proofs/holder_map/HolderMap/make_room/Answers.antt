@@ -1,6 +1,4 @@
-use Rattle.std.proofs.Common.{◌≡◌, ◌∙◌, ap, sym, rules, arith}
-use Rattle.std.specs.FinMap as fin
-use Rattle.std.specs.HashMap.{spare}
+use Rattle.std.proofs.Common.{◌∙◌, ap, rules, arith}
 use Rattle.sf_lifetimes.proofs.ByHolder.{reordered}
 use Rattle.sf_lifetimes.proofs.holder_map.HolderMap.make_room.Goals as goal
 

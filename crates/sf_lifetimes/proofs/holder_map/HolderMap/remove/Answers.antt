@@ -1,4 +1,4 @@
-use Rattle.std.proofs.Common.{◌≡◌, ◌∙◌, ap, sym, rules, arith}
+use Rattle.std.proofs.Common.{◌∙◌, ap}
 use Rattle.std.specs.FinMap as fin
 use Rattle.sf_lifetimes.proofs.ByHolder.{taken_out}
 use Rattle.sf_lifetimes.proofs.holder_map.HolderMap.remove.Goals as goal

@@ -1,7 +1,7 @@
-use Rattle.std.proofs.Common.{◌≡◌, ◌∙◌, ap, sym, subst, arith, rules}
+use Rattle.std.proofs.Common.{◌∙◌, ap, sym}
 use Rattle.std.specs.FinMap as fin
 use Rattle.sf_lifetimes.specs.Counts.{holders_in}
-use Rattle.sf_lifetimes.specs.Counted.{places_in, IsCountedBy}
+use Rattle.sf_lifetimes.specs.Counted.{places_in}
 use Rattle.sf_lifetimes.specs.Ledgers.{number_of_holders}
 use Rattle.sf_lifetimes.proofs.LedgerLaws.{no_places, none_counted_by}
 use Rattle.sf_lifetimes.proofs.ledger.Ledger.new.Goals as goal

@@ -1,5 +1,4 @@
-use Rattle.std.proofs.Common.{◌≡◌, ◌∙◌, ap, sym, subst}
-use Rattle.std.specs.FinMap as fin
+use Rattle.std.proofs.Common.{sym, subst}
 use Rattle.sf_lifetimes.specs.Shifts.{AreSafeShifts}
 use Rattle.sf_lifetimes.proofs.ShiftLaws.{shifted_counted_by, entries_shifted}
 use Rattle.sf_lifetimes.proofs.ledger.Ledger.shift.Goals as goal

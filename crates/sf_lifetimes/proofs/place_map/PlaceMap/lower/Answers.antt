@@ -1,14 +1,11 @@
-use Rattle.std.proofs.Common.{◌≡◌, ◌∙◌, ap, sym, refl, true, false, subst, arith, rules, Some, None, cond, ℕ, ◌+◌, ◌-◌, ◌≤◌, nat_eq}
+use Rattle.std.proofs.Common.{◌∙◌, ap, sym, refl, subst, arith, cond, ◌-◌, ◌≤◌}
 use Rattle.std.specs.Prelude.{IsSome, ◌==◌}
 use Rattle.std.specs.Option.{option_copied_mut}
-use Rattle.std.specs.HashMap.{get}
 use Rattle.std.specs.FinMap as fin
-use Rattle.sf_lifetimes.specs.declared.place_map.Counted.{Counted}
-use Rattle.sf_lifetimes.specs.Counts.{CountedMap, IsCounted, lowered, holders_in}
+use Rattle.sf_lifetimes.specs.Counts.{IsCounted, lowered, holders_in}
 use Rattle.sf_lifetimes.proofs.ByBirth.{get_is, put_at}
-use Rattle.sf_lifetimes.proofs.CountLaws.{recounted, lowered_live, changed_at, few_live, with_holders}
+use Rattle.sf_lifetimes.proofs.CountLaws.{recounted, lowered_live, changed_at, with_holders}
 use Rattle.sf_lifetimes.proofs.place_map.PlaceMap.lower.Goals as goal
-
 
 pub unreachable-requires : goal.unreachable-requires
 unreachable-requires c =

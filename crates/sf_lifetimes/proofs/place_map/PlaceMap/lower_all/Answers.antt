@@ -1,7 +1,5 @@
-use Rattle.std.proofs.Common.{◌≡◌, ◌∙◌, ◌≤◌, ◌<◌, ◌^◌, ◌++◌, [], ◌∷◌, ap, sym, subst, arith, rules, get_or, take, length, List, append_assoc}
-use Rattle.std.specs.FinMap as fin
-use Rattle.sf_types.specs.declared.place.Run.{Run}
-use Rattle.sf_lifetimes.specs.Counts.{holders_in, runs_of, last_held, raised, lowered, released}
+use Rattle.std.proofs.Common.{◌∙◌, ◌≤◌, sym, subst, get_or}
+use Rattle.sf_lifetimes.specs.Counts.{holders_in, lowered}
 use Rattle.sf_lifetimes.proofs.CountLaws.{untouched, changed_next, has_own}
 use Rattle.sf_lifetimes.proofs.place_map.PlaceMap.lower_all.Goals as goal
 

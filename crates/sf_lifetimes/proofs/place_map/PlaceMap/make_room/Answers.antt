@@ -1,5 +1,4 @@
-use Rattle.std.proofs.Common.{◌≡◌, ◌∙◌, ap, sym, rules, arith}
-use Rattle.std.specs.FinMap as fin
+use Rattle.std.proofs.Common.{◌∙◌, ap, sym, rules, arith}
 use Rattle.std.proofs.Common.{subst}
 use Rattle.sf_lifetimes.specs.Counts.{IsCounted}
 use Rattle.sf_lifetimes.proofs.ByBirth.{reordered}

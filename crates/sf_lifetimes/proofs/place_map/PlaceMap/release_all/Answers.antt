@@ -1,7 +1,6 @@
-use Rattle.std.proofs.Common.{◌≡◌, ◌∙◌, ◌≤◌, ◌<◌, ◌^◌, ◌++◌, [], ◌∷◌, ap, sym, subst, arith, rules, get_or, take, length, List, append_assoc}
-use Rattle.std.specs.FinMap as fin
+use Rattle.std.proofs.Common.{◌∙◌, ◌≤◌, ◌++◌, [], ◌∷◌, ap, sym, subst, arith, get_or, take, List, append_assoc}
 use Rattle.sf_types.specs.declared.place.Run.{Run}
-use Rattle.sf_lifetimes.specs.Counts.{holders_in, runs_of, last_held, raised, lowered, released}
+use Rattle.sf_lifetimes.specs.Counts.{holders_in, runs_of, last_held, released}
 use Rattle.sf_lifetimes.proofs.CountLaws.{untouched, changed_next, has_own, one_released, one_length, released_more, last_more}
 use Rattle.sf_lifetimes.proofs.place_map.PlaceMap.release_all.Goals as goal
 

@@ -1,4 +1,4 @@
-use Rattle.std.proofs.Common.{◌≡◌, ◌∙◌, ap, sym, subst}
+use Rattle.std.proofs.Common.{◌∙◌, ap, sym, subst}
 use Rattle.std.specs.FinMap as fin
 use Rattle.sf_lifetimes.specs.Counts.{CountedMap}
 use Rattle.sf_lifetimes.specs.Counted.{places_in}

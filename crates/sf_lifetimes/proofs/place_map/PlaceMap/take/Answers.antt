@@ -1,14 +1,9 @@
-use Rattle.std.proofs.Common.{◌≡◌, ◌∙◌, ap, sym, subst, arith, rules, Some, None, cond, ℕ, ◌+◌, ◌-◌, ◌≤◌, nat_eq}
-use Rattle.std.specs.Prelude.{IsSome, ◌==◌}
-use Rattle.std.specs.Option.{unwrap_or}
-use Rattle.std.specs.HashMap.{get}
+use Rattle.std.proofs.Common.{◌≡◌, ◌∙◌, ap, sym, subst, arith, ◌-◌}
 use Rattle.std.specs.FinMap as fin
-use Rattle.sf_lifetimes.specs.declared.place_map.Counted.{Counted}
-use Rattle.sf_lifetimes.specs.Counts.{CountedMap, IsCounted, runs_in, holders_in}
+use Rattle.sf_lifetimes.specs.Counts.{IsCounted, runs_in, holders_in}
 use Rattle.sf_lifetimes.proofs.ByBirth.{get_is, taken_out}
 use Rattle.sf_lifetimes.proofs.CountLaws.{taken_counted}
 use Rattle.sf_lifetimes.proofs.place_map.PlaceMap.take.Goals as goal
-
 
 pub unreachable-requires : goal.unreachable-requires
 unreachable-requires c =

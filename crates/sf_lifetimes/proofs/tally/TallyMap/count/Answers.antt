@@ -1,4 +1,4 @@
-use Rattle.std.proofs.Common.{◌≡◌, ◌∙◌, ◌≤◌, ◌-◌, ap, sym, subst, arith, cond, Some, Option, ℕ}
+use Rattle.std.proofs.Common.{◌∙◌, ◌≤◌, ◌-◌, ap, sym, subst, arith, cond, Some, ℕ}
 use Rattle.std.specs.Prelude.{◌==◌}
 use Rattle.std.specs.FinMap as fin
 use Rattle.std.specs.FinMap.{get-insert}
@@ -7,7 +7,7 @@ use Rattle.std.specs.Cmp.{nat_cmp_total, unsigned_ties}
 use Rattle.sf_lifetimes.specs.declared.tally.Tally.{Tally}
 use Rattle.sf_lifetimes.specs.Tallies.{Tallies, freed_sum, freed_in, left_of}
 use Rattle.sf_lifetimes.proofs.ByBirth.{put_at}
-use Rattle.sf_lifetimes.proofs.Sums.{weight, sum-insert}
+use Rattle.sf_lifetimes.proofs.Sums.{sum-insert}
 use Rattle.sf_lifetimes.proofs.TallyLaws.{none_freed}
 use Rattle.sf_lifetimes.proofs.tally.TallyMap.count.Goals as goal
 
