@@ -1,0 +1,10 @@
+mod HashMaps
+mod Sums
+mod ByBirth
+mod ByHolder
+mod CountLaws
+mod ExchangeLaws
+mod LedgerLaws
+mod TallyLaws
+mod ShiftLaws
+mod ExampleLaws

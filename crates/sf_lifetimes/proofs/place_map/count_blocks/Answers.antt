@@ -1,0 +1,17 @@
+use Rattle.std.proofs.Common.{length, take, get_or, ap, arith}
+use Rattle.std.proofs.lemmas.List.{length-append}
+use Rattle.std.proofs.lemmas.List.FromFn.{length-range_with_len}
+use Rattle.sf_types.specs.Placings.{blocks_in, blocks_in_run}
+use Rattle.sf_types.proofs.RunBlocks.{no_run, next-blocks, next-count}
+use Rattle.sf_lifetimes.proofs.place_map.count_blocks.Goals as goal
+
+pub overflow_add-count : goal.overflow_add-count
+overflow_add-count c =
+    omega (arith, c.loop-run.invariant, next-count c.args.runs.now c.loop-run.run-index c.loop-run-test.true, c.requires)
+
+pub loop-run-preserved : goal.loop-run-preserved
+loop-run-preserved c =
+    let runs = c.args.runs.now in
+    let k = c.loop-run.run-index in
+    let run = get_or runs k no_run in
+    omega (arith, c.loop-run.invariant, ap length (next-blocks runs k c.loop-run-test.true), length-append (blocks_in (take k runs)) (blocks_in_run run), length-range_with_len run.first run.blocks)

@@ -1,0 +1,61 @@
+-- Holders, told apart by lists of numbers.
+use Rattle.std.specs.Prelude.{◌≡◌, ℕ, true, List, [], ◌∷◌, ◌++◌, nat_eq}
+use Rattle.std.proofs.Common.{ap, sym, refl, get_or, ◌∙◌}
+use Rattle.std.specs.Hash as fed
+use Rattle.std.specs.Ordering.{nat_cmp, on, is_eq}
+use Rattle.std.specs.Cmp.{IsTotalOrder, on_total}
+use Rattle.std.specs.Cmp.Lexicographic.{pointwise, slice_cmp, nat_list_cmp_total, texts_ties}
+use Rattle.std.specs.FinMap.{IsAntisymmetric, nat_cmp-IsAntisymmetric, slice_cmp-IsAntisymmetric}
+use Rattle.std.specs.declared.cmp.Ordering.{Ordering}
+use Rattle.std.specs.declared.cmp.Ordering.TheVariants.{Less, Equal, Greater}
+use Rattle.sf_lifetimes.specs.declared.holder.Holder.{Holder}
+use Rattle.sf_lifetimes.specs.declared.holder.Holder.TheVariants.{Version, Session, Flush}
+
+-- The numbers of a holder: its kind, and then what its variant has.
+abbrev pub key_of : Holder → List ℕ
+key_of (Version name commit) = 0 ∷ commit ∷ name
+key_of (Session session) = 1 ∷ session ∷ []
+key_of (Flush session) = 2 ∷ session ∷ []
+
+-- The order of holders: by their keys, the first number first.
+abbrev pub holder_cmp : Holder → Holder → Ordering
+holder_cmp = on key_of (slice_cmp nat_cmp)
+
+pub holder_cmp_total : IsTotalOrder holder_cmp
+holder_cmp_total = on_total key_of nat_list_cmp_total
+
+first : List ℕ → ℕ
+first xs = get_or xs 0 0
+
+second : List ℕ → ℕ
+second xs = get_or xs 1 0
+
+-- holders with one key are one
+same_holder : (a b : Holder) → key_of a ≡ key_of b → a ≡ b
+same_holder (Version name commit) (Version other made) e = cc
+same_holder (Version name commit) (Session session) e = absurd cc
+same_holder (Version name commit) (Flush session) e = absurd cc
+same_holder (Session session) (Version name commit) e = absurd cc
+same_holder (Session session) (Session other) e = cc
+same_holder (Session session) (Flush other) e = absurd cc
+same_holder (Flush session) (Version name commit) e = absurd cc
+same_holder (Flush session) (Session other) e = absurd cc
+same_holder (Flush session) (Flush other) e = cc
+
+pub holder_cmp-IsAntisymmetric : IsAntisymmetric holder_cmp
+holder_cmp-IsAntisymmetric a b e = same_holder a b (slice_cmp-IsAntisymmetric nat_cmp-IsAntisymmetric (key_of a) (key_of b) e)
+
+equal : (r : Ordering) → is_eq r ≡ true → r ≡ Equal
+equal Less p = absurd cc
+equal Equal p = refl
+equal Greater p = absurd cc
+
+-- What a holder feeds a hasher.
+abbrev pub input_of : Holder → List (List ℕ)
+input_of (Version name commit) = fed.slice fed.u8 name ++ fed.u64 commit
+input_of (Session session) = fed.u16 session
+input_of (Flush session) = fed.u16 session
+
+-- Holders that are equal feed alike.
+pub same_input : (a b : Holder) → pointwise nat_eq (key_of a) (key_of b) ≡ true → input_of a ≡ input_of b
+same_input a b is = ap input_of (holder_cmp-IsAntisymmetric a b (equal (holder_cmp a b) (sym (texts_ties (key_of a) (key_of b)) ∙ is)))
