@@ -4,7 +4,8 @@ use Rattle.std.specs.Cmp.Lexicographic.{pointwise, texts_ties}
 use Rattle.std.specs.HashMap.{HashMap, get}
 use Rattle.std.specs.FinMap as fin
 use Rattle.sf_lifetimes.specs.declared.holder.Holder.{Holder}
-use Rattle.sf_lifetimes.specs.Holders.{key_of, holder_cmp, holder_cmp_total, holder_cmp-IsAntisymmetric}
+use Rattle.sf_lifetimes.specs.Holders.{key_of, holder_cmp, holder_cmp_total}
+use Rattle.sf_lifetimes.specs.Holders.{holder_cmp-IsAntisymmetric}
 use Rattle.sf_lifetimes.proofs.HashMaps as hash
 
 abbrev holder_eq : Holder → Holder → Bool

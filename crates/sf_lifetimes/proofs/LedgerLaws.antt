@@ -19,7 +19,8 @@ use Rattle.sf_types.specs.declared.place.Run.{Run}
 use Rattle.sf_types.specs.Placings.{blocks_in}
 use Rattle.sf_lifetimes.specs.declared.holder.Holder.{Holder}
 use Rattle.sf_lifetimes.specs.declared.place_map.Counted.{Counted}
-use Rattle.sf_lifetimes.specs.Holders.{holder_cmp, holder_cmp_total, holder_cmp-IsAntisymmetric}
+use Rattle.sf_lifetimes.specs.Holders.{holder_cmp, holder_cmp_total}
+use Rattle.sf_lifetimes.specs.Holders.{holder_cmp-IsAntisymmetric}
 use Rattle.sf_lifetimes.specs.Counts.{CountedMap, AreExchanged, AreFew, AreHeld, raised, released, has_birth, holders_in, runs_in, left_over, runs_of, live_in, live_sum, unheld_place, times, IsFree}
 use Rattle.sf_lifetimes.specs.Counted.{places_in, IsCountedBy}
 use Rattle.sf_lifetimes.specs.Ledgers.{Holdings, held_by, number_of_holders, with_births, unheld, live_blocks, place_of, placed_blocks, IsNewPlace}

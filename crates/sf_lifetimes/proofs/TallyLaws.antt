@@ -16,7 +16,8 @@ use Rattle.sf_types.specs.Placings.{blocks_in}
 use Rattle.sf_lifetimes.specs.declared.holder.Holder.{Holder}
 use Rattle.sf_lifetimes.specs.declared.place_map.Counted.{Counted}
 use Rattle.sf_lifetimes.specs.declared.tally.Tally.{Tally}
-use Rattle.sf_lifetimes.specs.Holders.{holder_cmp, holder_cmp_total, holder_cmp-IsAntisymmetric}
+use Rattle.sf_lifetimes.specs.Holders.{holder_cmp, holder_cmp_total}
+use Rattle.sf_lifetimes.specs.Holders.{holder_cmp-IsAntisymmetric}
 use Rattle.sf_lifetimes.specs.Counts.{CountedMap, AreHeld, has_birth, holders_in, runs_in, live_in, live_sum}
 use Rattle.sf_lifetimes.specs.Counted.{places_in, IsCountedBy}
 use Rattle.sf_lifetimes.specs.Ledgers.{Places, Holdings, held_by, number_of_holders, without, freed_by}

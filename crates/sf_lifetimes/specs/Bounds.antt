@@ -6,6 +6,7 @@ use Rattle.sf_lifetimes.specs.declared.place_map.Counted.{Counted}
 use Rattle.sf_lifetimes.specs.Counts.{CountedMap, live_in}
 use Rattle.sf_lifetimes.specs.Tallies.{Tallies, freed_in}
 
+-- The blocks that a birth frees, and those that it has live.
 abbrev pub freed_at : Option Tally → ℕ
 freed_at None = 0
 freed_at (Some t) = freed_in t

@@ -20,6 +20,7 @@ abbrev pub holders_in : Option Counted → ℕ
 holders_in None = 0
 holders_in (Some c) = c.holders
 
+-- The runs, none where there is no place.
 abbrev pub runs_in : Option Counted → List Run
 runs_in None = []
 runs_in (Some c) = c.runs
@@ -49,6 +50,7 @@ AreChanged change m births n = (q : ℕ) → fin.get n q ≡ cond (has_birth bir
 abbrev pub live_in : Counted → ℕ
 live_in c = cond (c.holders == 0) 0 (length (blocks_in c.runs))
 
+-- The live blocks of all places.
 abbrev pub live_sum : CountedMap → ℕ
 live_sum m = sum_by live_in (fin.values m)
 

@@ -1,6 +1,6 @@
 -- Holders, told apart by lists of numbers.
-use Rattle.std.specs.Prelude.{◌≡◌, ℕ, true, List, [], ◌∷◌, ◌++◌, nat_eq}
-use Rattle.std.proofs.Common.{ap, sym, refl, get_or, ◌∙◌}
+use Rattle.std.specs.Prelude.{◌≡◌, ℕ, true, ◌==◌, T, List, [], ◌∷◌, ◌++◌, nat_eq}
+use Rattle.std.proofs.Common.{ap, sym, refl, subst, ◌∙◌}
 use Rattle.std.specs.Hash as fed
 use Rattle.std.specs.Ordering.{nat_cmp, on, is_eq}
 use Rattle.std.specs.Cmp.{IsTotalOrder, on_total}
@@ -24,37 +24,39 @@ holder_cmp = on key_of (slice_cmp nat_cmp)
 pub holder_cmp_total : IsTotalOrder holder_cmp
 holder_cmp_total = on_total key_of nat_list_cmp_total
 
-first : List ℕ → ℕ
-first xs = get_or xs 0 0
-
-second : List ℕ → ℕ
-second xs = get_or xs 1 0
-
--- holders with one key are one
-same_holder : (a b : Holder) → key_of a ≡ key_of b → a ≡ b
-same_holder (Version name commit) (Version other made) e = cc
-same_holder (Version name commit) (Session session) e = absurd cc
-same_holder (Version name commit) (Flush session) e = absurd cc
-same_holder (Session session) (Version name commit) e = absurd cc
-same_holder (Session session) (Session other) e = cc
-same_holder (Session session) (Flush other) e = absurd cc
-same_holder (Flush session) (Version name commit) e = absurd cc
-same_holder (Flush session) (Session other) e = absurd cc
-same_holder (Flush session) (Flush other) e = cc
-
-pub holder_cmp-IsAntisymmetric : IsAntisymmetric holder_cmp
-holder_cmp-IsAntisymmetric a b e = same_holder a b (slice_cmp-IsAntisymmetric nat_cmp-IsAntisymmetric (key_of a) (key_of b) e)
-
-equal : (r : Ordering) → is_eq r ≡ true → r ≡ Equal
-equal Less p = absurd cc
-equal Equal p = refl
-equal Greater p = absurd cc
-
 -- What a holder feeds a hasher.
 abbrev pub input_of : Holder → List (List ℕ)
 input_of (Version name commit) = fed.slice fed.u8 name ++ fed.u64 commit
 input_of (Session session) = fed.u16 session
 input_of (Flush session) = fed.u16 session
+
+abbrev head : List ℕ → ℕ
+head [] = 0
+head (x ∷ xs) = x
+
+abbrev rest : List ℕ → List ℕ
+rest [] = []
+rest (x ∷ xs) = xs
+
+-- Holders with one key are one.
+same_holder : (a b : Holder) → key_of a ≡ key_of b → a ≡ b
+same_holder (Version name commit) (Version other made) e = λ i. Version (rest (rest (e i))) (head (rest (e i)))
+same_holder (Version name commit) (Session session) e = absurd (subst (λ xs. T (head xs == 0)) e tt)
+same_holder (Version name commit) (Flush session) e = absurd (subst (λ xs. T (head xs == 0)) e tt)
+same_holder (Session session) (Version name commit) e = absurd (subst (λ xs. T (head xs == 1)) e tt)
+same_holder (Session session) (Session other) e = λ i. Session (head (rest (e i)))
+same_holder (Session session) (Flush other) e = absurd (subst (λ xs. T (head xs == 1)) e tt)
+same_holder (Flush session) (Version name commit) e = absurd (subst (λ xs. T (head xs == 2)) e tt)
+same_holder (Flush session) (Session other) e = absurd (subst (λ xs. T (head xs == 2)) e tt)
+same_holder (Flush session) (Flush other) e = λ i. Flush (head (rest (e i)))
+
+pub holder_cmp-IsAntisymmetric : IsAntisymmetric holder_cmp
+holder_cmp-IsAntisymmetric a b e = same_holder a b (slice_cmp-IsAntisymmetric nat_cmp-IsAntisymmetric (key_of a) (key_of b) e)
+
+equal : (r : Ordering) → is_eq r ≡ true → r ≡ Equal
+equal Less p = absurd (subst T (sym p) tt)
+equal Equal p = refl
+equal Greater p = absurd (subst T (sym p) tt)
 
 -- Holders that are equal feed alike.
 pub same_input : (a b : Holder) → pointwise nat_eq (key_of a) (key_of b) ≡ true → input_of a ≡ input_of b

@@ -11,9 +11,11 @@ use Rattle.sf_lifetimes.specs.declared.holder.Holder.{Holder}
 use Rattle.sf_lifetimes.specs.Holders.{holder_cmp}
 use Rattle.sf_lifetimes.specs.Counts.{has_birth}
 
+-- The runs of each birth that has a place.
 abbrev pub Places : Type 0
 Places = fin.FinMap nat_cmp (List Run)
 
+-- The births of each holder that holds some.
 abbrev pub Holdings : Type 0
 Holdings = fin.FinMap holder_cmp (List ℕ)
 

@@ -10,6 +10,7 @@ use Rattle.sf_lifetimes.specs.declared.tally.Tally.{Tally}
 use Rattle.sf_lifetimes.specs.Counts.{has_birth, holders_in, runs_in}
 use Rattle.sf_lifetimes.specs.Ledgers.{Holdings, held_by}
 
+-- What is known of each birth of which a holder was counted off.
 abbrev pub Tallies : Type 0
 Tallies = fin.FinMap nat_cmp Tally
 
@@ -17,6 +18,7 @@ Tallies = fin.FinMap nat_cmp Tally
 abbrev pub freed_in : Tally → ℕ
 freed_in t = cond (t.left == 0) t.blocks 0
 
+-- The blocks of all these.
 abbrev pub freed_sum : Tallies → ℕ
 freed_sum tallies = sum_by freed_in (fin.values tallies)
 

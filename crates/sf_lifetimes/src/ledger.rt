@@ -1,5 +1,5 @@
 //! The ledger of contents by counts.
-ghost use Rattle.std.specs.Prelude.{◌≡◌, ◌≢◌, ◌+◌, ◌≤◌, ◌^◌, ◌++◌, [], ◌==◌, cond, length, map, All, AllPairs, None, Some, IsSome, IfOk, OnOk};
+ghost use Rattle.std.specs.Prelude.{◌≡◌, ◌≢◌, ◌+◌, ◌≤◌, ◌^◌, ◌++◌, [], ◌==◌, cond, length, map, All, AllPairs, None, Some, IsSome, is_some, not, IfOk, OnOk};
 ghost use Rattle.std.specs.Option.{option_copied};
 ghost use Rattle.std.specs.FinMap as fin;
 ghost use Rattle.sf_types.specs.Rooms.{MakesRoom, GrowsWithin};
@@ -18,7 +18,8 @@ use std::marker::Model;
 
 // The runs of a place that some holder holds.
 fn runs_if_held(counted: &Counted) -> Option<&ContentRuns>
-    ensures { option_copied result ≡ cond (counted.now.holders == 0) None (Some counted.now.runs) }
+    ensures runs { option_copied result ≡ cond (counted.now.holders == 0) None (Some counted.now.runs) }
+    ensures held { is_some result ≡ not (counted.now.holders == 0) }
 {
     if counted.holders == 0 {
         None
@@ -27,8 +28,8 @@ fn runs_if_held(counted: &Counted) -> Option<&ContentRuns>
     }
 }
 
-/// The places of births and the births of holders, seen as two finite maps, with room for more births. The way of
-/// counting is our own, after what a LOB store must know of shared contents (VLDB 2008).
+/// The places of births and the births of holders, seen as two finite maps, with room for more births. A birth is live
+/// exactly where some holder holds it; how many do is counted with its place (our own).
 #[derive(Drop)]
 pub struct Ledger {
     places: PlaceMap,
@@ -88,7 +89,8 @@ impl Ledger {
 
     /// The place of a live birth. None exactly where the birth isn't live.
     pub fn place_of(&self, birth: u128) -> Option<&ContentRuns>
-        ensures { option_copied result ≡ place_of self.now.held birth }
+        ensures place { option_copied result ≡ place_of self.now.held birth }
+        ensures live { is_some result ≡ not (number_of_holders birth self.now.held.holdings == 0) }
     {
         match self.places.get(birth) {
             Some(counted) => runs_if_held(counted),
