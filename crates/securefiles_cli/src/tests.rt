@@ -4,7 +4,8 @@ use crate::program::securefiles_plain;
 use crate::status::Status;
 use sf_outside::{MemSink, MemSource};
 use sf_types::{
-    Births, Blob, Call, Entry, Kind, List, LocName, Mem, Reply, Token, TryCopy, reply_text,
+    Births, Blob, Call, Entry, Kind, List, LocName, Mem, Reply, Run, Runs, Token, TryCopy,
+    reply_text,
 };
 use std::alloc::Global;
 use std::test::*;
@@ -177,5 +178,12 @@ fn lists_are_made(rt: HostRuntime) -> Result<(), Fail> {
     }))?;
     let order = made(made(history.copy())?.order())?;
     assert_eq!(rt; made(order.copy())?.as_slice(), [token].as_slice());
+    let mut runs = Runs::new(alloc);
+    made(runs.make_room(1))?;
+    made(runs.push(Run {
+        first: 3,
+        blocks: 2,
+    }))?;
+    assert_eq!(rt; made(runs.copy())?.len(), 1);
     Ok(())
 }

@@ -30,6 +30,7 @@ fn take(committed: &mut Committed, max: u64, into: &mut Runs) -> Mem<u64>
 fn parked_and_taken(alloc: Global) -> Mem<Runs> {
     let mut committed = Committed::new(alloc)?;
     let mut into = Runs::new(alloc);
+    committed.make_room(4)?;
     park_run(alloc, &mut committed, 5, 3)?;
     park_run(alloc, &mut committed, 9, 0)?;
     park_run(alloc, &mut committed, 0, 2)?;

@@ -10,6 +10,8 @@ use Rattle.sf_types.specs.Table.{Rows, Table}
 use Rattle.sf_types.specs.Versions.{or_absent, later, said, now}
 use Rattle.sf_types.specs.Reach.{is_kept}
 use Rattle.sf_laws.specs.KeptVersions.{IsKeptVersion, IsValueSinceFloor}
+use Rattle.sf_laws.proofs.Held.{later_none}
+use Rattle.sf_laws.proofs.Tests.{none_from}
 
 later_assoc : (a b c : Option (Option Value)) → later (later a b) c ≡ later a (later b c)
 later_assoc a b None = refl
@@ -24,12 +26,8 @@ said-append [] ys row = none-first (said ys row)
 said-append (c ∷ xs) ys row = ap (later (get c row)) (said-append xs ys row) ∙ sym (later_assoc (get c row) (said xs row) (said ys row))
 
 -- a front of commits says nothing where all of them don't
-later-none : (a b : Option (Option Value)) → later a b ≡ None → a ≡ None
-later-none a None is = is
-later-none a (Some x) is = absurd cc
-
 front-none : (xs ys : List Rows) (row : List ℕ) → said (xs ++ ys) row ≡ None → said xs row ≡ None
-front-none xs ys row none = later-none (said xs row) (said ys row) (sym (said-append xs ys row) ∙ none)
+front-none xs ys row none = (later_none (said xs row) (said ys row) (sym (said-append xs ys row) ∙ none)).0
 
 -- the last commit that names a row
 record IsLast (cs : List Rows) (row : List ℕ) (x : Option Value) (k : ℕ) : Type 0 where
@@ -111,10 +109,6 @@ given-at commits row k n v some le high given silent =
     ∙ ap (λ o. or_absent (later (said before row) (later (get (get_or commits (k - 1) []) row) o))) silent
     ∙ ap (λ o. or_absent (later (said before row) o)) given
 
-none-is : (o : Option (Option Value)) → is_none o ≡ true → o ≡ None
-none-is None is = refl
-none-is (Some x) is = absurd cc
-
 pub since_of : (t : Table) (row : List ℕ) (k : ℕ) (v : Value) → t.floor ≤ now t → IsKeptVersion t row k v → (n : ℕ) × IsValueSinceFloor t row n v
 since_of t row k v le version = choose (cases_lt t.floor k)
   where
@@ -130,7 +124,7 @@ since_of t row k v le version = choose (cases_lt t.floor k)
         )
     choose (inr low) =
         let first : nat_lt t.floor k ≡ false = grind (arith, nat_tests) in
-        let silent = none-is (said (drop k (take t.floor t.commits)) row) (rw first at version.kept) in (
+        let silent = none_from (said (drop k (take t.floor t.commits)) row) (rw first at version.kept) in (
           t.floor,
           record {
             low = omega arith;

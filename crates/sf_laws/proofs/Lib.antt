@@ -17,7 +17,6 @@ mod Places
 mod PublishCases
 mod ReachSteps
 mod Reached
-mod RisingReach
 mod Runs
 mod Settling
 mod StandingPromises

@@ -7,12 +7,14 @@ ghost use Rattle.sf_lifetimes.specs.Holders.{key_of, input_of, same_input};
 use sf_types::{List, Mem, Name, TryCopy};
 use std::hash::{Hash, Hasher};
 
-/// Who holds contents: a row's version, by the commit that made it; a session, with its values; a session's standing
-/// flush.
+/// Who holds contents.
 #[derive(Drop)]
 pub enum Holder {
+    /// A row's version, by the number of the commit that made it.
     Version(Name, u64),
+    /// A session, with its values.
     Session(u16),
+    /// A session's flush that stands, until its transaction ends.
     Flush(u16),
 }
 

@@ -77,7 +77,7 @@ impl HolderMap {
         Ok(())
     }
 
-    // The number of holders, and of more that can't be.
+    // At least the number of holders, and below 2^63.
     pub fn len(&self) -> usize
         ensures most { fin.len self.now.held ≤ result }
         ensures few { result < 2 ^ 63 }

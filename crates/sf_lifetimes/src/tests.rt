@@ -68,6 +68,7 @@ fn version_of_a(alloc: Global) -> Mem<Holder> {
 // The lengths of `into` after each call, the number of holders of birth 1, and what is left.
 fn by_counts(alloc: Global, into: &mut RunsList) -> Mem<([usize; 4], u64, bool, u64)> {
     let mut ledger = two_places(alloc)?;
+    ledger.make_room(2)?;
     hold_both(alloc, &mut ledger, Holder::Session(1), into)?;
     let first = into.len();
     hold_one(alloc, &mut ledger, version_of_a(alloc)?, 1, into)?;

@@ -1,7 +1,7 @@
 use Rattle.std.specs.Prelude.{flat_map}
 use Rattle.sf_types.specs.Reach.{holdings}
-use Rattle.sf_laws.proofs.RisingReach.{rising-rises}
+use Rattle.sf_laws.proofs.Sums.{rising_rises}
 use Rattle.sf_laws.proofs.reach.reach_rises.Goals as goal
 
 pub returns : goal.returns
-returns c = record { law = λ t. rising-rises (flat_map (λ h. h.births) (holdings t)) }
+returns c = record { law = λ t. rising_rises (flat_map (λ h. h.births) (holdings t)) }
