@@ -10,7 +10,7 @@ use Rattle.std.proofs.lemmas.Grind.{flat_map-append}
 use Rattle.sf_types.specs.declared.place.Run.{Run}
 use Rattle.sf_types.specs.Placings.{blocks_in, blocks_in_run}
 use Rattle.sf_block_space.specs.Free.{Gains, has_block}
-use Rattle.sf_block_space.proofs.Bools.{or-false, or-regroup}
+use Rattle.sf_types.proofs.BoolLemmas.{or-false, or-regroup}
 use Rattle.sf_block_space.proofs.Members.{has-append}
 use Rattle.sf_block_space.proofs.Order.{no_run, parts-at}
 

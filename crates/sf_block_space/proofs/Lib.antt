@@ -1,4 +1,3 @@
-pub mod Bools
 pub mod Choices
 pub mod Gaps
 pub mod Given

@@ -13,7 +13,7 @@ use Rattle.sf_types.specs.declared.place.Run.{Run}
 use Rattle.sf_types.specs.Placings.{blocks_in, blocks_in_run}
 use Rattle.sf_block_space.specs.Free.{AreFreeRuns, AreFreeRunsFrom, has_block, past}
 use Rattle.sf_block_space.specs.Grants.{IsNext, IsTaken, Loses, front_of, rest_of}
-use Rattle.sf_block_space.proofs.Bools.{none-of-both, and-true, and-neither, and-first, and-second}
+use Rattle.sf_types.proofs.BoolLemmas.{none-of-both, and-true, and-neither, and-first, and-second}
 use Rattle.sf_block_space.proofs.Members.{is_among, range-split, range-from, out-of-range, has-append, range-once, pairs-append, none-below, none-before, loses-from}
 use Rattle.sf_block_space.proofs.Order.{begin-before, behind, replaced, parts-at, run-within}
 

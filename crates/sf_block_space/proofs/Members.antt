@@ -14,7 +14,7 @@ use Rattle.sf_types.specs.declared.place.Run.{Run}
 use Rattle.sf_types.specs.Placings.{blocks_in, blocks_in_run}
 use Rattle.sf_block_space.specs.Free.{AreFreeRuns, AreFreeRunsFrom, has_block, Gains}
 use Rattle.sf_block_space.specs.Grants.{Loses}
-use Rattle.sf_block_space.proofs.Bools.{none-of-both, middle-last, or-middle, without-middle}
+use Rattle.sf_types.proofs.BoolLemmas.{none-of-both, middle-last, or-middle, without-middle}
 use Rattle.sf_block_space.proofs.Order.{first-behind}
 
 abbrev pub is_among : List ℕ → ℕ → Bool

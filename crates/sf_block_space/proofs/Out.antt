@@ -10,7 +10,7 @@ use Rattle.sf_types.specs.declared.place.Run.{Run}
 use Rattle.sf_types.specs.Placings.{blocks_in, blocks_in_run}
 use Rattle.sf_block_space.specs.Free.{AreApart, AreFreeRuns, AreOut, FreeSpace, Gains, has_block}
 use Rattle.sf_block_space.specs.Grants.{Loses}
-use Rattle.sf_block_space.proofs.Bools.{none-of-both}
+use Rattle.sf_types.proofs.BoolLemmas.{none-of-both}
 use Rattle.sf_block_space.proofs.Members.{is_among, item-among, block-below, has-append, pairs-append}
 
 not-true : (a b : Bool) → b ≡ true → (a && not b) ≡ false

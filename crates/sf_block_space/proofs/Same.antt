@@ -4,7 +4,7 @@ use Rattle.std.proofs.lemmas.Bool.{cases_lt}
 use Rattle.sf_types.specs.declared.place.Run.{Run}
 use Rattle.sf_types.specs.Placings.{blocks_in_run}
 use Rattle.sf_block_space.specs.Free.{AreFreeRuns, AreFreeRunsFrom, has_block}
-use Rattle.sf_block_space.proofs.Bools.{none-of-both}
+use Rattle.sf_types.proofs.BoolLemmas.{none-of-both}
 use Rattle.sf_block_space.proofs.Members.{is_among, in-range, out-of-range, has-cons, none-below}
 
 -- the blocks of the first run

@@ -8,7 +8,7 @@ use Rattle.std.proofs.lemmas.Option.{slice_get-get_or}
 use Rattle.sf_types.specs.declared.place.Run.{Run}
 use Rattle.sf_types.specs.Placings.{blocks_in_run}
 use Rattle.sf_block_space.specs.Free.{AreFreeRuns, BeginsFrom, has_block, past}
-use Rattle.sf_block_space.proofs.Bools.{or-true}
+use Rattle.sf_types.proofs.BoolLemmas.{or-true}
 use Rattle.sf_block_space.proofs.Members.{is_among, in-range, has-cons}
 use Rattle.sf_block_space.proofs.Order.{no_run, past-last, run-within}
 

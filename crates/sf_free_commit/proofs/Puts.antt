@@ -6,7 +6,7 @@ use Rattle.std.proofs.lemmas.List.Concat.{get_or-flat_map}
 use Rattle.std.proofs.lemmas.List.FromFn.{length-range_with_len, get_or-range_with_len}
 use Rattle.sf_types.specs.declared.place.Run.{Run}
 use Rattle.sf_types.specs.Placings.{blocks_in, blocks_in_run}
-use Rattle.sf_types.proofs.RunBlocks.{no_run, push-blocks, next-count}
+use Rattle.sf_types.proofs.RunLemmas.{no_run, push-blocks, next-count}
 
 -- the last block of a run is below the end
 pub run-below : (runs : List Run) (k : ℕ) → k < length runs → All (λ block. block < 2 ^ 32) (blocks_in runs) → 1 ≤ (get_or runs k no_run).blocks → (get_or runs k no_run).first + (get_or runs k no_run).blocks ≤ 2 ^ 32

@@ -6,7 +6,7 @@ use Rattle.std.proofs.lemmas.List.Elements.{All-push, All-from_recursion, recurs
 use Rattle.std.proofs.lemmas.List.{reverse-append}
 use Rattle.sf_types.specs.declared.place.Run.{Run}
 use Rattle.sf_types.specs.Placings.{blocks_in, blocks_in_run}
-use Rattle.sf_types.proofs.RunBlocks.{range-split}
+use Rattle.sf_types.proofs.RunLemmas.{range-split}
 use Rattle.sf_free_commit.specs.Queues.{blocks_of_queue, IsBelowEnd}
 
 -- the last run of the front is the first of the queue

@@ -7,7 +7,7 @@ use Rattle.std.proofs.lemmas.Slice.Eq.{bytes_eq-Decides}
 use Rattle.std.proofs.lemmas.List.Sums.{sum_by-cons, sum_by_push}
 use Rattle.std.proofs.lemmas.List.Elements.{Contains-push, Contains-append_left}
 use Rattle.sf_types.specs.Births.{IsRising, IsAboveAll}
-use Rattle.sf_types.proofs.RisingBirths.{IsRising-push}
+use Rattle.sf_types.proofs.BirthLemmas.{IsRising-push}
 use Rattle.sf_types.specs.Table.{Content}
 use Rattle.sf_types.specs.Cuts.{Cut}
 use Rattle.sf_types.specs.Use.{blocks_of, content_of, blocks_of_birth, blocks_of_births}

@@ -11,7 +11,7 @@ use Rattle.std.proofs.lemmas.List.FromFn.{length-range_with_len}
 use Rattle.std.proofs.lemmas.Bool.Decides.{nat_tests}
 use Rattle.sf_types.specs.declared.place.Place.{Place}
 use Rattle.sf_types.specs.Placings.{blocks_in}
-use Rattle.sf_types.proofs.RunBlocks.{range-split}
+use Rattle.sf_types.proofs.RunLemmas.{range-split}
 use Rattle.sf_shrink.specs.Plans.{placed_blocks, planned_from, planned, shifted_blocks, ArePlaced, IsSafeWithoutGap}
 
 planned-births : (start : ℕ) (places : List Place) → map (λ shift. shift.birth) (planned_from start places) ≡ map (λ place. place.birth) places

@@ -1,5 +1,8 @@
+pub mod BirthLemmas
+pub mod BoolLemmas
+pub mod ListLemmas
 pub mod NameMapLemmas
+pub mod NumberLemmas
 pub mod RefusedCalls
-pub mod RisingBirths
-pub mod RunBlocks
+pub mod RunLemmas
 pub mod VersionLemmas

@@ -15,9 +15,23 @@ pub record MakesRoom {X R E : Type 0} (before after : Roomy X) (items : ℕ) (re
   pub room : OnOk result (items ≤ after.spare)
   pub kept : before.spare ≤ after.spare
 
--- A call that grows an object by at most so many items. Within the spare it is done, and it lowers the spare by no more
--- than it may add. For want of memory it leaves what is held. A call that adds nothing lowers no spare.
-pub record GrowsWithin {X R E : Type 0} (before after : Roomy X) (items : ℕ) (result : Result R E) : Type 0 where
-  pub done : items ≤ before.spare → IsOk result
-  pub spare : before.spare ≤ after.spare + items
+-- A call that grows an object. Where there is room for the most items that it may add, it is done, and a done call
+-- lowers the spare by no more than the items that it added. For want of memory it leaves what is held and lowers no
+-- spare.
+pub record GrowsWithin {X R E : Type 0} (before after : Roomy X) (most added : ℕ) (result : Result R E) : Type 0 where
+  pub done : most ≤ before.spare → IsOk result
+  pub spare : OnOk result (before.spare ≤ after.spare + added)
   pub left : OnErr result (after.held ≡ before.held)
+  pub room_left : OnErr result (before.spare ≤ after.spare)
+
+-- A call that grows an object and moves items out of it to the end of another. Where there is room for the most items
+-- that the one may add, and for those that the other gets, it is done; a done call lowers neither spare by more than the
+-- items that its object got. For want of memory it leaves what both hold and lowers no spare.
+pub record MovesWithin {X Y R E : Type 0} (before after : Roomy X) (most added : ℕ) (into_before into_after : Roomy Y) (moved : ℕ) (result : Result R E) : Type 0 where
+  pub done : most ≤ before.spare → moved ≤ into_before.spare → IsOk result
+  pub spare : OnOk result (before.spare ≤ after.spare + added)
+  pub left : OnErr result (after.held ≡ before.held)
+  pub room_left : OnErr result (before.spare ≤ after.spare)
+  pub into_spare : OnOk result (into_before.spare ≤ into_after.spare + moved)
+  pub into_left : OnErr result (into_after.held ≡ into_before.held)
+  pub into_room_left : OnErr result (into_before.spare ≤ into_after.spare)

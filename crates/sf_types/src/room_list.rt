@@ -1,5 +1,5 @@
 //! Lists that make room ahead of what they are to hold.
-ghost use Rattle.std.specs.Prelude.{◌≡◌, [], ◌∷◌, ◌++◌, length, slice_get, IfOk, OnOk};
+ghost use Rattle.std.specs.Prelude.{◌≡◌, ◌+◌, ◌≤◌, [], ◌∷◌, ◌++◌, length, slice_get, IfOk, OnOk};
 ghost use Rattle.std.specs.Option.{option_copied};
 ghost use Rattle.sf_types.specs.Rooms.{MakesRoom, GrowsWithin};
 
@@ -25,30 +25,14 @@ impl<T> Model for RoomList<T> {
 }
 
 impl<T> RoomList<T> {
-    /// The empty list. It takes no memory.
+    /// The empty list, without room. It takes no memory.
     pub fn new(alloc: Global) -> RoomList<T>
-        ensures { result.held ≡ [] }
+        ensures items { result.held ≡ [] }
+        ensures spare { result.spare ≡ 0 }
     {
         RoomList {
             items: Vec::new(alloc),
         }
-    }
-
-    /// The list of a plain list's items.
-    pub fn from_list(list: List<T>) -> RoomList<T>
-        ensures { result.held ≡ list }
-    {
-        RoomList {
-            items: list.into_vec(),
-        }
-    }
-
-    /// The plain list of the items.
-    pub fn into_list(self) -> List<T>
-        ensures { result ≡ self.held }
-    {
-        let RoomList { items } = self;
-        List::from_vec(items)
     }
 
     /// Makes room for so many items more, which `push` then takes without memory.
@@ -82,24 +66,34 @@ impl<T> RoomList<T> {
 }
 
 impl<T: Drop> RoomList<T> {
-    /// Puts an item last.
+    /// Puts an item last. After want of memory nothing has changed.
     pub fn push(&mut self, item: T) -> Mem<()>
         ensures ok { OnOk result (self.new.held ≡ self.old.held ++ item ∷ []) }
-        ensures room { GrowsWithin self.old self.new 1 result }
+        ensures room { GrowsWithin self.old self.new 1 1 result }
     {
         self.items.push(item)?;
         Ok(())
     }
+
+    /// Puts an item last, where there is room for it. It takes no memory.
+    pub fn push_within(&mut self, item: T)
+        requires { 1 ≤ self.old.spare }
+        ensures items { self.new.held ≡ self.old.held ++ item ∷ [] }
+        ensures spare { self.new.spare + 1 ≡ self.old.spare }
+    {
+        self.items.push_reserved(item);
+    }
 }
 
 impl<T: TryCopy + Drop> RoomList<T> {
-    /// A list of equal items. It has no more room than it needs.
+    /// A list of equal items, without room for more.
     pub fn copy(&self) -> Mem<RoomList<T>>
-        ensures { IfOk result (λ copied. copied.held ≡ self.now.held) }
+        ensures items { IfOk result (λ copied. copied.held ≡ self.now.held) }
+        ensures spare { IfOk result (λ copied. copied.spare ≡ 0) }
     {
         let mut items = Vec::with_capacity(*self.items.allocator(), self.items.len())?;
         for item in &self.items {
-            items.push(item.copy()?)?;
+            items.push_reserved(item.copy()?);
         }
         Ok(RoomList { items })
     }

@@ -3,7 +3,7 @@ use Rattle.std.proofs.lemmas.List.{append-nil}
 use Rattle.std.proofs.lemmas.List.FromFn.{length-range_with_len}
 use Rattle.sf_types.specs.Placings.{blocks_in_run}
 use Rattle.sf_block_space.specs.Free.{has_block}
-use Rattle.sf_block_space.proofs.Bools.{none-of-both}
+use Rattle.sf_types.proofs.BoolLemmas.{none-of-both}
 use Rattle.sf_block_space.proofs.Given.{next-count, of-run, of-block, not-before, gains-more}
 use Rattle.sf_block_space.proofs.Order.{no_run, count-within}
 use Rattle.sf_block_space.proofs.returns.put_runs.Goals as goal

@@ -3,7 +3,7 @@ use Rattle.std.proofs.lemmas.List.{take_all}
 use Rattle.sf_types.specs.declared.place.Run.{Run}
 use Rattle.sf_types.specs.Placings.{blocks_in}
 use Rattle.sf_block_space.specs.Free.{AreApart, AreOut, has_block}
-use Rattle.sf_block_space.proofs.Bools.{and-turned}
+use Rattle.sf_types.proofs.BoolLemmas.{and-turned}
 use Rattle.sf_block_space.proofs.Out.{more-out, granted-apart}
 use Rattle.sf_block_space.proofs.tests.set_aside.Goals as goal
 

@@ -1,4 +1,4 @@
-use Rattle.sf_types.proofs.RisingBirths.{IsRising-push}
+use Rattle.sf_types.proofs.BirthLemmas.{IsRising-push}
 use Rattle.sf_types.proofs.place.Births.push.Goals as goal
 
 pub invariant_of-self-2 : goal.invariant_of-self-2

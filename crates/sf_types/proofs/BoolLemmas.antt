@@ -1,5 +1,6 @@
 -- Tests that are joined.
 use Rattle.std.proofs.Common.{◌≡◌, Bool, true, false, not, ◌||◌, ◌&&◌, refl}
+use Rattle.std.specs.Prelude.{T}
 
 pub none-of-both : (a b : Bool) → a ≡ false → b ≡ false → (a || b) ≡ false
 none-of-both a b no-a no-b = rw no-a no-b
@@ -67,3 +68,16 @@ and-turned true true none = none
 and-turned true false none = refl
 and-turned false true none = refl
 and-turned false false none = refl
+
+-- what a conjunction says of each part
+pub first : (a b : Bool) → T (a && b) → T a
+first true b p = tt
+first false b p = p
+
+pub second : (a b : Bool) → T (a && b) → T b
+second true b p = p
+second false b p = absurd p
+
+pub both : (a b : Bool) → T a → T b → T (a && b)
+both true b p q = q
+both false b p q = p

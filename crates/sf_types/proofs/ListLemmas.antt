@@ -1,0 +1,14 @@
+-- Items of lists.
+use Rattle.std.proofs.Common.{◌≡◌, ℕ, zero, suc, ◌<◌, List, [], ◌∷◌, ◌++◌, length, Some, refl, arith}
+use Rattle.std.specs.Prelude.{slice_get}
+
+-- an item of the first of two lists
+pub get-append : {X : Type 0} (xs ys : List X) (i : ℕ) → i < length xs → slice_get (xs ++ ys) i ≡ slice_get xs i
+get-append [] ys i lt = absurd (omega arith)
+get-append (x ∷ xs) ys zero lt = refl
+get-append (x ∷ xs) ys (suc i) lt = get-append xs ys i (omega arith)
+
+-- the item after all of a list
+pub get_last : {X : Type 0} (xs : List X) (y : X) → slice_get (xs ++ y ∷ []) (length xs) ≡ Some y
+get_last [] y = refl
+get_last (x ∷ xs) y = get_last xs y
