@@ -8,18 +8,18 @@ use Rattle.sf_types.specs.declared.history.Kind.TheVariants as kind
 use Rattle.sf_types.specs.declared.options.Options.{Options}
 use Rattle.sf_types.specs.declared.reply.Fault.{Fault}
 use Rattle.sf_types.specs.declared.reply.Reply.{Reply}
-use Rattle.sf_types.specs.Table.{Session, Table, new_session, opening}
-use Rattle.sf_types.specs.Sessions.{session_of, with_session, row_value, holds, with_lock}
+use Rattle.sf_types.specs.Table.Parts.{Session, Table, new_session, opening_table}
+use Rattle.sf_types.specs.Table.Sessions.{session_of, with_session, row_value, holds_lock, with_lock}
 use Rattle.sf_types.specs.declared.reply.Reply.TheVariants as reply
-use Rattle.sf_types.specs.Values.{empty_value, size_of}
-use Rattle.sf_types.specs.Versions.{now, current}
-use Rattle.sf_types.specs.RowCalls.{insert_refusal, inserted, lock_refusal, locked}
-use Rattle.sf_types.specs.LocatorCalls.{locator, length_refusal, length_call, read_refusal, read_bytes, read_call}
-use Rattle.sf_types.specs.WritingCalls.{writing_refusal, old_value, result_of, answered, written, write}
-use Rattle.sf_types.specs.Ends.{committed, with_commit}
-use Rattle.sf_types.specs.Refusals.{refused_or}
-use Rattle.sf_types.specs.Step.{step}
-use Rattle.sf_types.specs.Orders.{IsLegalWhere}
+use Rattle.sf_types.specs.Values.Marks.{empty_value, size_of}
+use Rattle.sf_types.specs.Table.Versions.{commit_count, current_value}
+use Rattle.sf_types.specs.Calls.RowCalls.{insert_refusal, after_insert, lock_refusal, after_lock}
+use Rattle.sf_types.specs.Calls.LocatorCalls.{locator, length_refusal, length_call, read_refusal, read_bytes, read_call}
+use Rattle.sf_types.specs.Calls.WritingCalls.{writing_refusal, old_value, result_of, write_reply, after_write, write_call}
+use Rattle.sf_types.specs.Calls.TransactionEnds.{after_commit, with_commit}
+use Rattle.sf_types.specs.Calls.Refusals.{refusal_or}
+use Rattle.sf_types.specs.Calls.Steps.{step}
+use Rattle.sf_types.specs.Orders.Histories.{IsLegalWhere}
 use Rattle.sf_script.specs.Parts.{can_stand}
 use Rattle.securefiles_cli.specs.Live.{IsLive}
 use Rattle.securefiles_cli.specs.Plays.{done_by}
@@ -39,7 +39,7 @@ some_length : (n : ℕ) → 1 ≤ n → (x : Session) → (nat_le 1 1 && nat_le 
 some_length zero le x = absurd (omega arith)
 some_length (suc n) le x = some_le (length (replicate n x))
 
-pub live_opening : (options : Options) (sessions : ℕ) → 1 ≤ sessions → IsLive (opening options sessions)
+pub live_opening : (options : Options) (sessions : ℕ) → 1 ≤ sessions → IsLive (opening_table options sessions)
 live_opening options sessions le = record {
   session = some_length sessions le new_session;
   goes_on = rw (some_session sessions le new_session) refl;
@@ -70,11 +70,11 @@ live_with t u p live is free =
     let all : AreLive u.sessions = subst AreLive (sym is) set in
     record { session = all.session; goes_on = all.goes_on; free = all.free }
 
-live_refused_or : (o : Option Fault) (t : Table) (done : Table × Reply) → IsLive t → IsLive done.0 → IsLive (refused_or o t done).0
+live_refused_or : (o : Option Fault) (t : Table) (done : Table × Reply) → IsLive t → IsLive done.0 → IsLive (refusal_or o t done).0
 live_refused_or None t done live after = after
 live_refused_or (Some f) t done live after = live
 
-free_refused_or : (o : Option Fault) (p : Session) (done : Session × Reply) → IsFree p → IsFree done.0 → IsFree (refused_or o p done).0
+free_refused_or : (o : Option Fault) (p : Session) (done : Session × Reply) → IsFree p → IsFree done.0 → IsFree (refusal_or o p done).0
 free_refused_or None p done free after = after
 free_refused_or (Some f) p done free after = free
 
@@ -86,22 +86,22 @@ live_if false x y a b = b
 live_step : (t : Table) (c : Call) → can_stand c ≡ true → IsLive t → IsLive (step t 1 c).0
 live_step t (call.Insert row) stands live =
     let p = session_of t 1 in
-    let u : Table = record (with_session t 1 (inserted p row)) { locks = with_lock t.locks 1 row } in
-    live_refused_or (insert_refusal t 1 p row) t (u, reply.Done) live (live_with t u (inserted p row) live refl (record { goes_on = live.goes_on; free = live.free }))
+    let u : Table = record (with_session t 1 (after_insert p row)) { locks = with_lock t.locks 1 row } in
+    live_refused_or (insert_refusal t 1 p row) t (u, reply.Done) live (live_with t u (after_insert p row) live refl (record { goes_on = live.goes_on; free = live.free }))
 live_step t (call.Lock to row) stands live =
     let p = session_of t 1 in
-    let q = locked p to row (unwrap_or (row_value p (current t row) row) empty_value) in
+    let q = after_lock p to row (unwrap_or (row_value p (current_value t row) row) empty_value) in
     let u : Table = record (with_session t 1 q) { locks = with_lock t.locks 1 row } in
     live_refused_or (lock_refusal t 1 p to row) t (u, reply.Done) live (live_with t u q live refl (record { goes_on = live.goes_on; free = live.free }))
 live_step t (call.WriteAppend at bytes) stands live =
     let p = session_of t 1 in
     let c = call.WriteAppend at bytes in
     let row = (locator p at).row in
-    let is_held = holds t.locks 1 row in
-    let value = current t row in
-    let q = written p at (result_of p value at c) in
-    let done = write p is_held value at c in
-    live_with t (with_session t 1 done.0) done.0 live refl (free_refused_or (writing_refusal p is_held value at c) p (q, answered c (old_value p value at)) (part_of t live) (record { goes_on = live.goes_on; free = live.free }))
+    let is_held = holds_lock t.locks 1 row in
+    let value = current_value t row in
+    let q = after_write p at (result_of p value at c) in
+    let done = write_call p is_held value at c in
+    live_with t (with_session t 1 done.0) done.0 live refl (free_refused_or (writing_refusal p is_held value at c) p (q, write_reply c (old_value p value at)) (part_of t live) (record { goes_on = live.goes_on; free = live.free }))
 live_step t (call.Length at) stands live =
     let p = session_of t 1 in
     let done = length_call p at in
@@ -113,8 +113,8 @@ live_step t (call.Read at amount offset) stands live =
 live_step t call.Commit stands live =
     let p = session_of t 1 in
     let q : Session = record p { savepoints = [] } in
-    live_if p.is_open (with_commit t 1 p, reply.Committed (now t + 1)) (with_session t 1 q, reply.Committed (now t))
-    (live_with t (with_commit t 1 p) (committed p) live refl (record { goes_on = live.goes_on; free = live.free }))
+    live_if p.is_open (with_commit t 1 p, reply.Committed (commit_count t + 1)) (with_session t 1 q, reply.Committed (commit_count t))
+    (live_with t (with_commit t 1 p) (after_commit p) live refl (record { goes_on = live.goes_on; free = live.free }))
     (live_with t (with_session t 1 q) q live refl (record { goes_on = live.goes_on; free = live.free }))
 live_step t _ stands live = absurd cc
 

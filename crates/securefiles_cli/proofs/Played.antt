@@ -7,8 +7,8 @@ use Rattle.sf_types.specs.declared.call.Call.TheVariants.{End}
 use Rattle.sf_types.specs.declared.history.Kind.TheVariants as kind
 use Rattle.sf_types.specs.declared.history.Token.{Token}
 use Rattle.sf_types.specs.declared.reply.Reply.{Reply}
-use Rattle.sf_types.specs.Table.{Table}
-use Rattle.sf_types.specs.Orders.{table_after, replies_from, replies_to}
+use Rattle.sf_types.specs.Table.Parts.{Table}
+use Rattle.sf_types.specs.Orders.Histories.{table_after, replies_from, replies_to}
 use Rattle.sf_script.specs.Parts.{can_stand}
 use Rattle.securefiles_cli.specs.Plays.{entry_of, done_by}
 

@@ -1,7 +1,7 @@
 -- A table in which session 1 may call.
 use Rattle.std.specs.Prelude.{◌≡◌, false, IsTrue, None}
-use Rattle.sf_types.specs.Table.{Table}
-use Rattle.sf_types.specs.Sessions.{has_session, session_of}
+use Rattle.sf_types.specs.Table.Parts.{Table}
+use Rattle.sf_types.specs.Table.Sessions.{has_session, session_of}
 
 -- Session 1 is there, hasn't ended, and has no promise.
 pub record IsLive (t : Table) : Type 0 where

@@ -14,7 +14,7 @@ use Rattle.securefiles_cli.specs.declared.status.Status.TheVariants as status
 use Rattle.securefiles_cli.specs.Inputs.{IsReadFor, IsReadAs}
 use Rattle.securefiles_cli.specs.Outputs.{GrowsByFront}
 use Rattle.securefiles_cli.specs.Plays.{transcript_of}
-use Rattle.sf_types.specs.Transcripts.{line}
+use Rattle.sf_types.specs.Orders.Transcripts.{line}
 
 -- The words are the one word `play`, the only command today.
 abbrev pub is_play : List (String Global) → Bool

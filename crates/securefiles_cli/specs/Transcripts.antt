@@ -2,9 +2,9 @@
 use Rattle.std.specs.Prelude.{ℕ, List, ◌++◌, codes, flat_map}
 use Rattle.std.specs.Fmt.{decimal}
 use Rattle.sf_types.specs.declared.history.Token.{Token}
-use Rattle.sf_types.specs.declared.place.RowEnd.{RowEnd}
+use Rattle.sf_types.specs.declared.row_end.RowEnd.{RowEnd}
 use Rattle.sf_types.specs.declared.reply.Reply.{Reply}
-use Rattle.sf_types.specs.Transcripts.{line, order_line, session_lines, row_line}
+use Rattle.sf_types.specs.Orders.Transcripts.{line, order_line, session_lines, row_line}
 
 -- Its header, the order, the replies session by session, the rows, and the number of commits.
 abbrev pub transcript_text : List Token → List (List Reply) → List RowEnd → ℕ → List ℕ

@@ -2,8 +2,8 @@
 ghost use Rattle.std.specs.Prelude.{◌≡◌, ◌∷◌, [], ◌++◌, ◌≤◌, map, replicate, IfOk, OnOk, IsTrue};
 ghost use Rattle.std.specs.List.{list_all};
 ghost use Rattle.sf_types.specs.declared.call.Call.TheVariants.{End};
-ghost use Rattle.sf_types.specs.Step.{has_step};
-ghost use Rattle.sf_types.specs.Orders.{table_after, replies_from, replies_to};
+ghost use Rattle.sf_types.specs.Calls.Steps.{has_step};
+ghost use Rattle.sf_types.specs.Orders.Histories.{table_after, replies_from, replies_to};
 ghost use Rattle.sf_script.specs.Parts.{can_stand};
 ghost use Rattle.securefiles_cli.specs.Live.{IsLive};
 ghost use Rattle.securefiles_cli.specs.Plays.{entry_of, done_by, calls_of, order_of, replies_of, end_of, IsPlayed};

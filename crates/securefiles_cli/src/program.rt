@@ -7,7 +7,7 @@ ghost use Rattle.sf_script.specs.Scripts.{script_of};
 ghost use Rattle.securefiles_cli.specs.declared.status.Status.TheVariants as status;
 ghost use Rattle.securefiles_cli.specs.Inputs.{IsReadAs};
 ghost use Rattle.securefiles_cli.specs.Outputs.{GrowsByFront};
-ghost use Rattle.sf_types.specs.Transcripts.{line};
+ghost use Rattle.sf_types.specs.Orders.Transcripts.{line};
 ghost use Rattle.securefiles_cli.specs.Program.{is_play, usage_line, refusal_line, status_of, output_of, due_status, due_output, IsOfWords, IsStop, IsDue, IsPlayedOut, IsRefusedOut, IsCutOff};
 
 use crate::input::{ReadError, read_input};

@@ -1,7 +1,7 @@
 //! The text of a transcript.
 ghost use Rattle.std.specs.Prelude.{◌≡◌, ◌++◌, ◌+◌, ◌<◌, ◌≤◌, ◌^◌, length, OnOk, IfOk, codes};
 ghost use Rattle.std.specs.List.{flat_map};
-ghost use Rattle.sf_types.specs.Transcripts.{token_text, order_line, reply_line, reply_lines, session_lines, row_line, line};
+ghost use Rattle.sf_types.specs.Orders.Transcripts.{token_text, order_line, reply_line, reply_lines, session_lines, row_line, line};
 ghost use Rattle.securefiles_cli.specs.Transcripts.{transcript_text};
 ghost use Rattle.std.specs.Fmt.{decimal};
 

@@ -5,8 +5,8 @@ use Rattle.std.specs.List.{range_with_len}
 use Rattle.std.proofs.lemmas.List.{append-nil}
 use Rattle.std.proofs.lemmas.List.FromFn.{length-range_with_len, get_or-range_with_len}
 use Rattle.std.proofs.lemmas.Grind.{flat_map-append}
-use Rattle.sf_types.specs.declared.place.Run.{Run}
-use Rattle.sf_types.specs.Placings.{blocks_in, blocks_in_run}
+use Rattle.sf_types.specs.declared.run.Run.{Run}
+use Rattle.sf_types.specs.Space.BlockRuns.{blocks_in, blocks_in_run}
 use Rattle.sf_block_space.specs.Free.{AreFreeRunsFrom, BeginsFrom, Gains, past}
 use Rattle.sf_block_space.proofs.Members.{range-split, gains-from}
 use Rattle.sf_block_space.proofs.Order.{begin, behind, replaced}

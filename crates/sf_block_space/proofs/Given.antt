@@ -7,8 +7,8 @@ use Rattle.std.proofs.lemmas.List.Concat.{get_or-flat_map}
 use Rattle.std.proofs.lemmas.List.Folds.{length-flat_map-take, list_any_none}
 use Rattle.std.proofs.lemmas.List.FromFn.{length-range_with_len, get_or-range_with_len}
 use Rattle.std.proofs.lemmas.Grind.{flat_map-append}
-use Rattle.sf_types.specs.declared.place.Run.{Run}
-use Rattle.sf_types.specs.Placings.{blocks_in, blocks_in_run}
+use Rattle.sf_types.specs.declared.run.Run.{Run}
+use Rattle.sf_types.specs.Space.BlockRuns.{blocks_in, blocks_in_run}
 use Rattle.sf_block_space.specs.Free.{Gains, has_block}
 use Rattle.sf_types.proofs.BoolLemmas.{or-false, or-regroup}
 use Rattle.sf_block_space.proofs.Members.{has-append}

@@ -10,8 +10,8 @@ use Rattle.std.proofs.lemmas.Bool.Decides.{eqb_tells, Decides-eqb}
 use Rattle.std.proofs.lemmas.List.{length-append}
 use Rattle.std.proofs.lemmas.List.Folds.{list_any-append, list_any_at}
 use Rattle.std.proofs.lemmas.Grind.{flat_map-append}
-use Rattle.sf_types.specs.declared.place.Run.{Run}
-use Rattle.sf_types.specs.Placings.{blocks_in, blocks_in_run}
+use Rattle.sf_types.specs.declared.run.Run.{Run}
+use Rattle.sf_types.specs.Space.BlockRuns.{blocks_in, blocks_in_run}
 use Rattle.sf_block_space.specs.Free.{AreFreeRuns, AreFreeRunsFrom, has_block, Gains}
 use Rattle.sf_block_space.specs.Grants.{Loses}
 use Rattle.sf_types.proofs.BoolLemmas.{none-of-both, middle-last, or-middle, without-middle}

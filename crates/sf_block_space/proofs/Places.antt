@@ -5,7 +5,7 @@ use Rattle.std.specs.List.{remove, insert}
 use Rattle.std.proofs.Math.Seq.{drop-cons, take-suc}
 use Rattle.std.proofs.lemmas.List.{set_at, set_split, take-append-drop, length-take-le}
 use Rattle.std.proofs.lemmas.Option.{slice_get-get_or}
-use Rattle.sf_types.specs.declared.place.Run.{Run}
+use Rattle.sf_types.specs.declared.run.Run.{Run}
 use Rattle.sf_block_space.specs.Free.{BeginsFrom, Gains, past}
 use Rattle.sf_block_space.proofs.Gaps.{joined, put-alone, put-before, put-behind, put-between}
 use Rattle.sf_block_space.proofs.Order.{parts-at}

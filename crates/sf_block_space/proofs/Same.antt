@@ -1,8 +1,8 @@
 -- Maximal runs in their order are determined by their blocks.
 use Rattle.std.proofs.Common.{◌≡◌, ℕ, ◌+◌, ◌≤◌, ◌<◌, ◌⊎◌, inl, inr, List, [], ◌∷◌, Bool, true, false, ◌||◌, refl, sym, ap, ◌∙◌, subst, arith}
 use Rattle.std.proofs.lemmas.Bool.{cases_lt}
-use Rattle.sf_types.specs.declared.place.Run.{Run}
-use Rattle.sf_types.specs.Placings.{blocks_in_run}
+use Rattle.sf_types.specs.declared.run.Run.{Run}
+use Rattle.sf_types.specs.Space.BlockRuns.{blocks_in_run}
 use Rattle.sf_block_space.specs.Free.{AreFreeRuns, AreFreeRunsFrom, has_block}
 use Rattle.sf_types.proofs.BoolLemmas.{none-of-both}
 use Rattle.sf_block_space.proofs.Members.{is_among, in-range, out-of-range, has-cons, none-below}

@@ -5,8 +5,8 @@ use Rattle.std.proofs.Math.Seq.{drop-cons, take-suc}
 use Rattle.std.proofs.lemmas.Bool.{cases_lt}
 use Rattle.std.proofs.lemmas.List.{drop_all}
 use Rattle.std.proofs.lemmas.Option.{slice_get-get_or}
-use Rattle.sf_types.specs.declared.place.Run.{Run}
-use Rattle.sf_types.specs.Placings.{blocks_in_run}
+use Rattle.sf_types.specs.declared.run.Run.{Run}
+use Rattle.sf_types.specs.Space.BlockRuns.{blocks_in_run}
 use Rattle.sf_block_space.specs.Free.{AreFreeRuns, BeginsFrom, has_block, past}
 use Rattle.sf_types.proofs.BoolLemmas.{or-true}
 use Rattle.sf_block_space.proofs.Members.{is_among, in-range, has-cons}

@@ -3,7 +3,7 @@ use Rattle.std.proofs.Common.{◌≡◌, ℕ, ◌+◌, ◌-◌, ◌≤◌, ◌<�
 use Rattle.std.specs.Prelude.{slice_get, All}
 use Rattle.std.proofs.lemmas.List.Edits.{length-remove}
 use Rattle.std.proofs.lemmas.Option.{get_or_from_slice_get, slice_get_within}
-use Rattle.sf_types.specs.declared.place.Run.{Run}
+use Rattle.sf_types.specs.declared.run.Run.{Run}
 use Rattle.sf_block_space.specs.Grants.{IsGrant, IsLongest, IsRoomFor, IsTaken, front_of}
 
 -- what holds of all runs holds of this one

@@ -1,8 +1,8 @@
 -- The free blocks of a store, as runs.
 use Rattle.std.specs.Prelude.{◌≡◌, ℕ, ◌+◌, ◌≤◌, ◌<◌, List, [], ◌∷◌, Bool, false, ◌||◌, ◌&&◌, ◌≢◌, length, All, AllPairs, nat_eq}
 use Rattle.std.specs.List.{list_any}
-use Rattle.sf_types.specs.declared.place.Run.{Run}
-use Rattle.sf_types.specs.Placings.{blocks_in}
+use Rattle.sf_types.specs.declared.run.Run.{Run}
+use Rattle.sf_types.specs.Space.BlockRuns.{blocks_in}
 
 -- The free blocks below a capacity, which is a number of blocks. They stand in `runs`.
 pub record FreeSpace : Type 0 where

@@ -1,8 +1,8 @@
 -- Which free blocks are granted.
 use Rattle.std.specs.Prelude.{◌≡◌, ℕ, ◌+◌, ◌-◌, ◌≤◌, ◌<◌, min, ◌⊎◌, List, [], ◌∷◌, Some, take, All, AllPairs, ◌≢◌, true, slice_get, slice_set, length, not, ◌&&◌}
 use Rattle.std.specs.List.{remove}
-use Rattle.sf_types.specs.declared.place.Run.{Run}
-use Rattle.sf_types.specs.Placings.{blocks_in}
+use Rattle.sf_types.specs.declared.run.Run.{Run}
+use Rattle.sf_types.specs.Space.BlockRuns.{blocks_in}
 use Rattle.sf_block_space.specs.Free.{AreFreeRuns, has_block}
 
 -- First fit: the run at this place has at least n blocks, and each run before it has fewer.

@@ -1,7 +1,7 @@
 //! Free blocks.
 ghost use Rattle.std.specs.Prelude.{◌≡◌, ◌≤◌, length, IfOk, OnOk, OnErr};
 ghost use Rattle.std.specs.List.{range_with_len};
-ghost use Rattle.sf_types.specs.Placings.{blocks_in};
+ghost use Rattle.sf_types.specs.Space.BlockRuns.{blocks_in};
 ghost use Rattle.sf_types.specs.Rooms.{MakesRoom, GrowsWithin};
 ghost use Rattle.sf_block_space.specs.Free.{AreFreeRuns, AreOut, Gains};
 ghost use Rattle.sf_block_space.specs.Grants.{IsGrant, Loses};
@@ -24,7 +24,7 @@ pub struct FreeRuns {
 
 impl Model for FreeRuns {
     ghost use Rattle.std.specs.Prelude.{◌≡◌, ◌-◌, length, vec_capacity, vec_len};
-    ghost use Rattle.sf_types.specs.Placings.{blocks_in};
+    ghost use Rattle.sf_types.specs.Space.BlockRuns.{blocks_in};
     ghost use Rattle.sf_types.specs.Rooms.{Roomy};
     ghost use Rattle.sf_block_space.specs.Free.{FreeSpace, AreFreeRuns};
 

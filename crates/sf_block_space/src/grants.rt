@@ -1,7 +1,7 @@
 //! Which free runs a grant takes.
 ghost use Rattle.std.specs.Prelude.{ℕ, ◌≡◌, ◌+◌, ◌-◌, ◌≤◌, ◌<◌, ◌^◌, ◌∷◌, [], length, min, Some, slice_get, vec_len, vec_capacity};
-ghost use Rattle.sf_types.specs.declared.place.Run.{Run as RunView};
-ghost use Rattle.sf_types.specs.Placings.{blocks_in};
+ghost use Rattle.sf_types.specs.declared.run.Run.{Run as RunView};
+ghost use Rattle.sf_types.specs.Space.BlockRuns.{blocks_in};
 ghost use Rattle.sf_block_space.specs.Free.{AreFreeRuns};
 ghost use Rattle.sf_block_space.specs.Grants.{IsGrant, IsNext, IsRoomFor, IsTaken, Loses};
 

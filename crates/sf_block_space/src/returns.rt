@@ -1,7 +1,7 @@
 //! Where blocks that come back stand among the free runs.
 ghost use Rattle.std.specs.Prelude.{◌≡◌, ◌+◌, ◌-◌, ◌≤◌, ◌<◌, ◌^◌, ◌∷◌, [], ℕ, length, take, drop, All, AllPairs, ◌≢◌, Some, slice_get, vec_len, vec_capacity, false, IsTrue};
-ghost use Rattle.sf_types.specs.declared.place.Run.{Run as RunView};
-ghost use Rattle.sf_types.specs.Placings.{blocks_in};
+ghost use Rattle.sf_types.specs.declared.run.Run.{Run as RunView};
+ghost use Rattle.sf_types.specs.Space.BlockRuns.{blocks_in};
 ghost use Rattle.sf_block_space.specs.Free.{AreFreeRuns, has_block, Gains, BeginsFrom, past};
 
 use sf_types::Run;

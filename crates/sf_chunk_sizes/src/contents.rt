@@ -1,7 +1,7 @@
 //! Contents and blocks.
 ghost use Rattle.std.specs.Prelude.{◌≡◌, IfOk};
-ghost use Rattle.sf_types.specs.Cuts.{contents_of_run};
-ghost use Rattle.sf_types.specs.Use.{blocks_of};
+ghost use Rattle.sf_types.specs.Space.Contents.{contents_of_stretch};
+ghost use Rattle.sf_types.specs.Space.Contents.{blocks_of};
 
 use sf_types::{Blob, BlobList, List, Mem};
 use std::alloc::Global;
@@ -21,7 +21,7 @@ pub fn blocks(len: u64) -> u64
 
 /// The contents of a run of fresh bytes: 32,768 bytes each, and a last one of the rest. No bytes have no content.
 pub fn cut(alloc: Global, bytes: &[u8]) -> Mem<BlobList>
-    ensures { IfOk result (λ contents. contents ≡ contents_of_run bytes.now) }
+    ensures { IfOk result (λ contents. contents ≡ contents_of_stretch bytes.now) }
 {
     let mut contents = List::new(alloc);
     let mut rest = bytes;

@@ -1,7 +1,7 @@
 -- A queue of runs in two lists, and the blocks that it holds.
 use Rattle.std.specs.Prelude.{◌≡◌, ℕ, ◌+◌, ◌≤◌, ◌^◌, List, ◌++◌, length, reverse, All}
-use Rattle.sf_types.specs.declared.place.Run.{Run}
-use Rattle.sf_types.specs.Placings.{blocks_in}
+use Rattle.sf_types.specs.declared.run.Run.{Run}
+use Rattle.sf_types.specs.Space.BlockRuns.{blocks_in}
 
 -- The runs in their order: those of the front from its end on, and then those of the back.
 abbrev pub runs_of : List Run → List Run → List Run

@@ -1,6 +1,6 @@
 //! Parked blocks.
 ghost use Rattle.std.specs.Prelude.{◌≡◌, ◌+◌, ◌*◌, ◌≤◌, ◌<◌, ◌^◌, ◌++◌, [], length, take, drop, min, All, IfOk, OnOk};
-ghost use Rattle.sf_types.specs.Placings.{blocks_in};
+ghost use Rattle.sf_types.specs.Space.BlockRuns.{blocks_in};
 ghost use Rattle.sf_types.specs.Rooms.{MakesRoom, GrowsWithin};
 
 use crate::queue::{put_runs, take_blocks};

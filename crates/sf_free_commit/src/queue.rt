@@ -1,7 +1,7 @@
 //! A queue of runs in two lists: the front turned round, so that its first run is the last item, and the back.
 ghost use Rattle.std.specs.Prelude.{◌≡◌, ◌+◌, ◌-◌, ◌≤◌, ◌<◌, ◌^◌, ◌≢◌, ◌++◌, ◌∷◌, [], List, length, All, vec_len, vec_capacity, min, IsTrue, false};
-ghost use Rattle.sf_types.specs.declared.place.Run.{Run as RunView};
-ghost use Rattle.sf_types.specs.Placings.{blocks_in, blocks_in_run};
+ghost use Rattle.sf_types.specs.declared.run.Run.{Run as RunView};
+ghost use Rattle.sf_types.specs.Space.BlockRuns.{blocks_in, blocks_in_run};
 ghost use Rattle.sf_free_commit.specs.Queues.{runs_of, blocks_of_queue, IsBelowEnd};
 
 use sf_types::{Run, Runs};

@@ -3,14 +3,14 @@ use Rattle.std.proofs.Common.{◌≡◌, ℕ, ◌+◌, ◌-◌, ◌≤◌, IsTru
 use Rattle.std.specs.Prelude.{slice_set}
 use Rattle.std.specs.List.{AllByRecursion as Each}
 use Rattle.sf_types.specs.declared.call.Call.{Call}
-use Rattle.sf_types.specs.Table.{Content, Promise, Session, Table}
-use Rattle.sf_types.specs.Sessions.{has_session, session_of}
-use Rattle.sf_types.specs.Reach.{reach}
-use Rattle.sf_types.specs.Promises.{flush_cuts}
-use Rattle.sf_types.specs.Publications.{contents_after, publish}
-use Rattle.sf_types.specs.Step.{step}
+use Rattle.sf_types.specs.Table.Parts.{Content, Promise, Session, Table}
+use Rattle.sf_types.specs.Table.Sessions.{has_session, session_of}
+use Rattle.sf_types.specs.Space.Reach.{reach}
+use Rattle.sf_types.specs.Space.Promises.{flush_cuts}
+use Rattle.sf_types.specs.Space.Publications.{contents_after, publish}
+use Rattle.sf_types.specs.Calls.Steps.{step}
 use Rattle.sf_laws.proofs.Each.{each-set}
-use Rattle.sf_types.specs.Versions.{now}
+use Rattle.sf_types.specs.Table.Versions.{commit_count}
 use Rattle.sf_laws.proofs.HeldSteps.{floor_rises}
 use Rattle.sf_laws.proofs.StepCases.{StepCases, by_cases, same_part}
 use Rattle.sf_laws.proofs.PublishCases.{by_publish_cases}
@@ -37,7 +37,7 @@ step_changes t s has = record {
   written = λ name c is. record { part = _; promised = refl; sessions = refl; options = refl; contents = refl; floor = omega arith };
   saved = λ name. record { part = _; promised = refl; sessions = refl; options = refl; contents = refl; floor = omega arith };
   gone_back = λ name x is. record { part = _; promised = refl; sessions = refl; options = refl; contents = refl; floor = omega arith };
-  committed = record { part = _; promised = refl; sessions = refl; options = refl; contents = refl; floor = floor_rises t.options t.floor (now t + 1) };
+  committed = record { part = _; promised = refl; sessions = refl; options = refl; contents = refl; floor = floor_rises t.options t.floor (commit_count t + 1) };
   erased = record { part = _; promised = refl; sessions = refl; options = refl; contents = refl; floor = omega arith };
   rolled_back = record { part = _; promised = refl; sessions = refl; options = refl; contents = refl; floor = omega arith };
   ended = record { part = _; promised = refl; sessions = refl; options = refl; contents = refl; floor = omega arith };
@@ -48,7 +48,7 @@ step_changed t s c has = by_cases t s (IsChanged t s (session_of t s).promise t.
 
 pub publish_changed : (t : Table) (s : ℕ) (c : Call) → IsChanged t s None (contents_after t.contents (reach t) (flush_cuts t s c)) (publish t s c).0
 publish_changed t s c = by_publish_cases t s c (IsChanged t s None (contents_after t.contents (reach t) (flush_cuts t s c))) (record {
-  committed = λ is. record { part = _; promised = refl; sessions = refl; options = refl; contents = ap (λ d. contents_after t.contents (reach t) (flush_cuts t s d)) (sym is); floor = floor_rises t.options t.floor (now t + 1) };
+  committed = λ is. record { part = _; promised = refl; sessions = refl; options = refl; contents = ap (λ d. contents_after t.contents (reach t) (flush_cuts t s d)) (sym is); floor = floor_rises t.options t.floor (commit_count t + 1) };
   left_open = λ is. record { part = _; promised = refl; sessions = refl; options = refl; contents = ap (λ d. contents_after t.contents (reach t) (flush_cuts t s d)) (sym is); floor = omega arith };
   written = λ at is flush. record { part = _; promised = refl; sessions = refl; options = refl; contents = refl; floor = omega arith };
   nothing = λ is flush. record { part = _; promised = refl; sessions = refl; options = refl; contents = rw flush refl; floor = omega arith };

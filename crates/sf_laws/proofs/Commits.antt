@@ -12,20 +12,20 @@ use Rattle.sf_types.specs.declared.options.Options.{Options}
 use Rattle.sf_types.specs.declared.reply.Fault.{Fault}
 use Rattle.sf_types.specs.declared.reply.Reply.{Reply}
 use Rattle.sf_types.specs.declared.reply.Reply.TheVariants as reply
-use Rattle.sf_types.specs.Values.{Value}
-use Rattle.sf_types.specs.Table.{Content, Promise, Rows, Session, Table}
-use Rattle.sf_types.specs.Sessions.{session_of, with_session}
-use Rattle.sf_types.specs.Versions.{now}
-use Rattle.sf_types.specs.Refusals.{refused_or}
-use Rattle.sf_types.specs.WritingCalls.{written_at}
-use Rattle.sf_types.specs.Ends.{commit, with_commit}
-use Rattle.sf_types.specs.Cuts.{Cut, is_sharing, contents_of_value, cuts, cuts_of_value, settle, settle_value}
-use Rattle.sf_types.specs.Due.{has_fresh, is_due}
-use Rattle.sf_types.specs.Reach.{reach}
-use Rattle.sf_types.specs.Promises.{flush_cuts, promised_at}
-use Rattle.sf_types.specs.Publications.{births_for, contents_with, reached_with, publish_of, publish_write, unpromised, with_contents, settled_flush}
-use Rattle.sf_types.specs.Step.{step}
-use Rattle.sf_types.specs.Orders.{IsLegalBeside, IsLegal, applied_call, applied}
+use Rattle.sf_types.specs.Values.Marks.{Value}
+use Rattle.sf_types.specs.Table.Parts.{Content, Promise, Rows, Session, Table}
+use Rattle.sf_types.specs.Table.Sessions.{session_of, with_session}
+use Rattle.sf_types.specs.Table.Versions.{commit_count}
+use Rattle.sf_types.specs.Calls.Refusals.{refusal_or}
+use Rattle.sf_types.specs.Calls.WritingCalls.{written_name}
+use Rattle.sf_types.specs.Calls.TransactionEnds.{commit_call, with_commit}
+use Rattle.sf_types.specs.Space.Cuts.{Cut, is_sharing, contents_of_value, cuts, cuts_of_value, settle, settle_value}
+use Rattle.sf_types.specs.Space.Due.{has_fresh, is_due}
+use Rattle.sf_types.specs.Space.Reach.{reach}
+use Rattle.sf_types.specs.Space.Promises.{flush_cuts, promise_at}
+use Rattle.sf_types.specs.Space.Publications.{births_for, contents_with, reached_with, publish_of, publish_write, without_promise, with_contents, settled_flush}
+use Rattle.sf_types.specs.Calls.Steps.{step}
+use Rattle.sf_types.specs.Orders.Histories.{IsLegalBeside, IsLegal, call_effect, entry_effect}
 use Rattle.sf_laws.specs.Committed.{are_stored, IsAllStored}
 use Rattle.sf_laws.proofs.Runs.{segments_maximal, segments-fresh}
 
@@ -34,7 +34,7 @@ and-is true b one two = two
 and-is false b one two = absurd cc
 
 -- what is refused leaves the commits, as does what is done
-left-is : (o : Option Fault) (t : Table) (done : Table × Reply) → done.0.commits ≡ t.commits → (refused_or o t done).0.commits ≡ t.commits
+left-is : (o : Option Fault) (t : Table) (done : Table × Reply) → done.0.commits ≡ t.commits → (refusal_or o t done).0.commits ≡ t.commits
 left-is None t done same = same
 left-is (Some f) t done same = refl
 
@@ -67,10 +67,10 @@ stored-more (c ∷ commits) rows all last = choose (are_stored c) all (stored-mo
     choose false all rest = absurd cc
 
 -- a commit of rows without a fresh byte
-commit-stored : (t : Table) (s : ℕ) (p : Session) → IsAllStored t → are_stored p.working ≡ true → IsAllStored (commit t s p).0
+commit-stored : (t : Table) (s : ℕ) (p : Session) → IsAllStored t → are_stored p.working ≡ true → IsAllStored (commit_call t s p).0
 commit-stored t s p all last = choose p.is_open
   where
-    choose : (b : Bool) → IsAllStored (cond {A = Table × Reply} b (with_commit t s p, reply.Committed (now t + 1)) (with_session t s (record p { savepoints = [] }), reply.Committed (now t))).0
+    choose : (b : Bool) → IsAllStored (cond {A = Table × Reply} b (with_commit t s p, reply.Committed (commit_count t + 1)) (with_session t s (record p { savepoints = [] }), reply.Committed (commit_count t))).0
     choose true = stored-more t.commits p.working all last
     choose false = all
 
@@ -94,7 +94,7 @@ births-length contents reached [] = refl
 births-length contents reached (cut ∷ of) = ap (λ n. suc n) (births-length (contents_with contents reached cut) (reached_with contents reached cut) of)
 
 -- a publication
-other-commits : (t : Table) (s : ℕ) (p : Session) (c : Call) (o : Option (List ℕ)) → (option_map_or (λ at. publish_write t s p at c) o (with_session t s (unpromised p), reply.Done)).0.commits ≡ t.commits
+other-commits : (t : Table) (s : ℕ) (p : Session) (c : Call) (o : Option (List ℕ)) → (option_map_or (λ at. publish_write t s p at c) o (with_session t s (without_promise p), reply.Done)).0.commits ≡ t.commits
 other-commits t s p c None = refl
 other-commits t s p c (Some at) = refl
 
@@ -105,22 +105,22 @@ flush-stored t s =
 
 publish-stored : (t : Table) (s : ℕ) (c : Call) → IsAllStored t → IsAllStored (publish_of t s (session_of t s) c).0
 publish-stored t s call.Commit all =
-    commit-stored (with_contents t s call.Commit) s (record (unpromised (session_of t s)) { working = settled_flush t s call.Commit }) all (flush-stored t s)
-publish-stored t s c all = subst (λ (commits : List Rows). list_all are_stored commits ≡ true) (sym (other-commits t s (session_of t s) c (written_at c))) all
+    commit-stored (with_contents t s call.Commit) s (record (without_promise (session_of t s)) { working = settled_flush t s call.Commit }) all (flush-stored t s)
+publish-stored t s c all = subst (λ (commits : List Rows). list_all are_stored commits ≡ true) (sym (other-commits t s (session_of t s) c (written_name c))) all
 
 call-stored : (t : Table) (s : ℕ) (c : Call) → is_due t s c ≡ false → IsAllStored t → IsAllStored (step t s c).0
 call-stored t s call.Commit due all = commit-stored t s (session_of t s) all (none-fresh (session_of t s).working due)
 call-stored t s c due all = subst (λ (commits : List Rows). list_all are_stored commits ≡ true) (sym (step-commits t s c (λ is. absurd cc))) all
 
-ended-stored : (t : Table) (s : ℕ) (c : Call) (o : Option Promise) → IsLegalBeside o (is_due t s c) kind.Call c → IsAllStored t → IsAllStored (applied_call o t s c).0
+ended-stored : (t : Table) (s : ℕ) (c : Call) (o : Option Promise) → IsLegalBeside o (is_due t s c) kind.Call c → IsAllStored t → IsAllStored (call_effect o t s c).0
 ended-stored t s c None due all = call-stored t s c due all
 ended-stored t s c (Some q) same all = publish-stored t s c all
 
-promised-commits : (t : Table) (s : ℕ) (c : Call) (of : List Cut) (o : Option ℕ) → (promised_at t s c of o).0.commits ≡ t.commits
+promised-commits : (t : Table) (s : ℕ) (c : Call) (of : List Cut) (o : Option ℕ) → (promise_at t s c of o).0.commits ≡ t.commits
 promised-commits t s c of None = refl
 promised-commits t s c of (Some h) = refl
 
-pub entry-stored : (t : Table) (s : ℕ) (k : Kind) (c : Call) → IsLegal t s k c → IsAllStored t → IsAllStored (applied t s k c).0
+pub entry-stored : (t : Table) (s : ℕ) (k : Kind) (c : Call) → IsLegal t s k c → IsAllStored t → IsAllStored (entry_effect t s k c).0
 entry-stored t s kind.Call c legal all = ended-stored t s c (session_of t s).promise legal.standing all
 entry-stored t s kind.Promise c legal all = subst (λ (commits : List Rows). list_all are_stored commits ≡ true) (sym (promised-commits t s c (flush_cuts t s c) _)) all
 entry-stored t s kind.Cancel c legal all = all

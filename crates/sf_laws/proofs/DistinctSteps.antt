@@ -7,14 +7,14 @@ use Rattle.std.proofs.lemmas.List.Elements.{Contains-push_cases}
 use Rattle.sf_types.specs.declared.call.Call.{Call}
 use Rattle.sf_types.specs.declared.history.Entry.{Entry}
 use Rattle.sf_types.specs.declared.options.Options.{Options}
-use Rattle.sf_types.specs.Table.{Content, Table, opening}
-use Rattle.sf_types.specs.Sessions.{has_session}
-use Rattle.sf_types.specs.Cuts.{Cut}
-use Rattle.sf_types.specs.Reach.{reach}
-use Rattle.sf_types.specs.Promises.{is_shared_as, found, flush_cuts, granted, cancel}
-use Rattle.sf_types.specs.Publications.{content_of_cut, contents_with, reached_with, contents_after, publish}
-use Rattle.sf_types.specs.Step.{step}
-use Rattle.sf_types.specs.Orders.{IsLegal, IsLegalRun, apply, table_after}
+use Rattle.sf_types.specs.Table.Parts.{Content, Table, opening_table}
+use Rattle.sf_types.specs.Table.Sessions.{has_session}
+use Rattle.sf_types.specs.Space.Cuts.{Cut}
+use Rattle.sf_types.specs.Space.Reach.{reach}
+use Rattle.sf_types.specs.Space.Promises.{is_shared_as, found_birth, flush_cuts, with_promise, cancel}
+use Rattle.sf_types.specs.Space.Publications.{content_of_cut, contents_with, reached_with, contents_after, publish}
+use Rattle.sf_types.specs.Calls.Steps.{step}
+use Rattle.sf_types.specs.Orders.Histories.{IsLegal, IsLegalHistory, effect_of, table_after}
 use Rattle.sf_laws.specs.TrueMarks.{IsGivenOut, HasTrueMarks}
 use Rattle.sf_laws.specs.SharedContents.{IsSharedWith, AreDistinct, HasDistinctContents}
 use Rattle.sf_laws.proofs.Each.{each_contained, each_itself, none_found}
@@ -34,7 +34,7 @@ passes_shared : (contents : List Content) (bytes : List ℕ) (b : ℕ) → IsSha
 passes_shared contents bytes b is = rw is ((bytes_eq-Decides bytes bytes).1 refl)
 
 -- a sharing cut that isn't found has bytes that no shared birth has
-not_found : (contents : List Content) (reached : List ℕ) (cut : Cut) (b : ℕ) → found contents reached cut ≡ None → cut.is_sharing ≡ true → Contains reached b → IsSharedWith contents cut.bytes b → ⊥
+not_found : (contents : List Content) (reached : List ℕ) (cut : Cut) (b : ℕ) → found_birth contents reached cut ≡ None → cut.is_sharing ≡ true → Contains reached b → IsSharedWith contents cut.bytes b → ⊥
 not_found contents reached cut b none sharing within shared =
     let gone : find (is_shared_as contents cut.bytes) reached ≡ None = rw sharing at none in
     let fails : is_shared_as contents cut.bytes b ≡ false = each_contained (λ x. is_shared_as contents cut.bytes x ≡ false) reached b (none_found (is_shared_as contents cut.bytes) reached gone) within in
@@ -49,7 +49,7 @@ last_shared contents cut bytes c is shared =
     let same : content_of_cut cut ≡ record { bytes = bytes; is_shared = true } = cc in
     (ap (λ (x : Content). x.is_shared) same, ap (λ (x : Content). x.bytes) same)
 
-distinct_where : (contents : List Content) (reached : List ℕ) (cut : Cut) (o : Option ℕ) → found contents reached cut ≡ o → Each (IsGivenOut contents) reached → AreDistinct contents reached
+distinct_where : (contents : List Content) (reached : List ℕ) (cut : Cut) (o : Option ℕ) → found_birth contents reached cut ≡ o → Each (IsGivenOut contents) reached → AreDistinct contents reached
     → AreDistinct (cond (is_some o) contents (contents ++ content_of_cut cut ∷ [])) (cond (is_some o) reached (reached ++ (length contents + 1) ∷ []))
 distinct_where contents reached cut (Some x) is given distinct = distinct
 distinct_where contents reached cut None is given distinct = λ bytes b c in_b in_c of_b of_c.
@@ -75,7 +75,7 @@ distinct_after : (contents : List Content) (reached : List ℕ) (of : List Cut) 
 distinct_after contents reached [] given distinct = distinct
 distinct_after contents reached (cut ∷ rest) given distinct =
     distinct_after (contents_with contents reached cut) (reached_with contents reached cut) rest (given_with contents reached cut given)
-    (distinct_where contents reached cut (found contents reached cut) refl given distinct)
+    (distinct_where contents reached cut (found_birth contents reached cut) refl given distinct)
 
 -- The births in reach alone.
 abbrev IsDistinct : Table → Type 0
@@ -97,22 +97,22 @@ distinct_cases t s c has marks distinct =
           (distinct_among (contents_after t.contents (reach t) of) reached (reach (publish t s c).0) (distinct_after t.contents (reach t) of given distinct)
           (reach_published (Contains reached) t s c given (each_itself reached)));
       refused = distinct;
-      granted = λ none due h le fits. fewer_reached t (granted t s c of h) distinct refl (reach_granted (Contains (reach t)) t s c of h (reach_at_floor (Contains (reach t)) t h le within));
+      granted = λ none due h le fits. fewer_reached t (with_promise t s c of h) distinct refl (reach_granted (Contains (reach t)) t s c of h (reach_at_floor (Contains (reach t)) t h le within));
       cancelled = λ q is. fewer_reached t (cancel t s) distinct refl (reach_cancelled (Contains (reach t)) t s within);
     }
 
-pub distinct_entry : (t : Table) (e : Entry) → IsLegal t e.token.session e.token.kind e.call → HasDistinctContents t → HasDistinctContents (apply t e).0
+pub distinct_entry : (t : Table) (e : Entry) → IsLegal t e.token.session e.token.kind e.call → HasDistinctContents t → HasDistinctContents (effect_of t e).0
 distinct_entry t e legal has = record {
   true_marks = true_after t e legal has.true_marks;
   distinct = by_entry_cases t e.token.session e.token.kind e.call IsDistinct legal (distinct_cases t e.token.session e.call legal.session has.true_marks has.distinct);
 }
 
-pub distinct_opening : (options : Options) (sessions : ℕ) → HasDistinctContents (opening options sessions)
+pub distinct_opening : (options : Options) (sessions : ℕ) → HasDistinctContents (opening_table options sessions)
 distinct_opening options sessions = record {
   true_marks = true_opening options sessions;
   distinct = λ bytes b c in_b in_c of_b of_c. absurd cc;
 }
 
-pub distinct_run : (t : Table) (history : List Entry) → IsLegalRun t history → HasDistinctContents t → HasDistinctContents (table_after t history)
+pub distinct_run : (t : Table) (history : List Entry) → IsLegalHistory t history → HasDistinctContents t → HasDistinctContents (table_after t history)
 distinct_run t [] legal has = has
-distinct_run t (e ∷ es) legal has = distinct_run (apply t e).0 es legal.1 (distinct_entry t e legal.0 has)
+distinct_run t (e ∷ es) legal has = distinct_run (effect_of t e).0 es legal.1 (distinct_entry t e legal.0 has)

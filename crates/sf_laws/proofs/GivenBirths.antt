@@ -6,11 +6,11 @@ use Rattle.std.specs.Prelude.{find, unwrap_or, is_some, slice_get, bytes_eq, Con
 use Rattle.std.specs.List.{AllByRecursion as Each}
 use Rattle.std.specs.Option.{option_map_or}
 use Rattle.std.proofs.lemmas.Slice.Eq.{bytes_eq-Decides}
-use Rattle.sf_types.specs.Table.{Content}
-use Rattle.sf_types.specs.Cuts.{Cut, stored_from, stored}
-use Rattle.sf_types.specs.Use.{content_of}
-use Rattle.sf_types.specs.Promises.{is_shared_as, found, is_found}
-use Rattle.sf_types.specs.Publications.{content_of_cut, birth_for, contents_with, reached_with, births_for, contents_after}
+use Rattle.sf_types.specs.Table.Parts.{Content}
+use Rattle.sf_types.specs.Space.Cuts.{Cut, stored_bytes_from, stored_bytes}
+use Rattle.sf_types.specs.Space.Use.{content_of}
+use Rattle.sf_types.specs.Space.Promises.{is_shared_as, found_birth, is_found}
+use Rattle.sf_types.specs.Space.Publications.{content_of_cut, birth_for, contents_with, reached_with, births_for, contents_after}
 use Rattle.sf_laws.specs.TrueMarks.{IsGivenOut, bytes_of, HasTrueMark}
 use Rattle.sf_laws.proofs.Each.{each_weaker, each-append, each_left, each_found, each_itself, each_contained}
 use Rattle.sf_laws.proofs.Settling.{Paired}
@@ -80,7 +80,7 @@ shared_at contents reached cut b (Some x) sharing within at is = record {
   bytes = (bytes_eq-Decides x.bytes cut.bytes).0 (and_second x.is_shared (bytes_eq x.bytes cut.bytes) is);
 }
 
-pub found_at : (contents : List Content) (reached : List ℕ) (cut : Cut) (b : ℕ) → found contents reached cut ≡ Some b → IsFoundAt contents reached cut b
+pub found_at : (contents : List Content) (reached : List ℕ) (cut : Cut) (b : ℕ) → found_birth contents reached cut ≡ Some b → IsFoundAt contents reached cut b
 found_at contents reached cut b is =
     elim cut.is_sharing as (λ c. cut.is_sharing ≡ c → cond c (find (is_shared_as contents cut.bytes) reached) None ≡ Some b → IsFoundAt contents reached cut b) [
       | true ↦ λ sharing h. let both = each_found (Contains reached) (is_shared_as contents cut.bytes) reached b h (each_itself reached) in shared_at contents reached cut b (content_of contents b) sharing both.0 refl both.1
@@ -93,7 +93,7 @@ pub record IsGivenTo (contents : List Content) (reached : List ℕ) (cut : Cut) 
   pub bytes : bytes_of contents b ≡ cut.bytes
   pub within : Contains reached b
 
-given_where : (contents : List Content) (reached : List ℕ) (cut : Cut) (o : Option ℕ) → found contents reached cut ≡ o → Each (IsGivenOut contents) reached
+given_where : (contents : List Content) (reached : List ℕ) (cut : Cut) (o : Option ℕ) → found_birth contents reached cut ≡ o → Each (IsGivenOut contents) reached
     → IsGivenTo (cond (is_some o) contents (contents ++ content_of_cut cut ∷ [])) (cond (is_some o) reached (reached ++ (length contents + 1) ∷ [])) cut (unwrap_or o (length contents + 1))
 given_where contents reached cut None is given = record {
   given_out = record { low = omega arith; high = rw length-append (omega arith) };
@@ -112,7 +112,7 @@ given_where contents reached cut (Some b) is given =
     }
 
 pub given_to : (contents : List Content) (reached : List ℕ) (cut : Cut) → Each (IsGivenOut contents) reached → IsGivenTo (contents_with contents reached cut) (reached_with contents reached cut) cut (birth_for contents reached cut)
-given_to contents reached cut given = given_where contents reached cut (found contents reached cut) refl given
+given_to contents reached cut given = given_where contents reached cut (found_birth contents reached cut) refl given
 
 pub reached_front : (P : ℕ → Type 0) (contents : List Content) (reached : List ℕ) (cut : Cut) → Each P (reached_with contents reached cut) → Each P reached
 reached_front P contents reached cut all =
@@ -159,11 +159,11 @@ given_after contents reached [] given = given
 given_after contents reached (cut ∷ rest) given = given_after (contents_with contents reached cut) (reached_with contents reached cut) rest (given_with contents reached cut given)
 
 -- the bytes that a birth stores are true where the birth has them
-stored_true_from : (contents : List Content) (b i : ℕ) (all bytes : List ℕ) → IsGivenOut contents b → bytes_of contents b ≡ all → drop i all ≡ bytes → Each (HasTrueMark contents) (stored_from b i bytes)
+stored_true_from : (contents : List Content) (b i : ℕ) (all bytes : List ℕ) → IsGivenOut contents b → bytes_of contents b ≡ all → drop i all ≡ bytes → Each (HasTrueMark contents) (stored_bytes_from b i bytes)
 stored_true_from contents b i all [] given is at = tt
 stored_true_from contents b i all (x ∷ bytes) given is at =
     let parts = at_drop all i x bytes at in
     (record { given_out = given; stands = ap (λ (xs : List ℕ). slice_get xs i) is ∙ parts.0 }, stored_true_from contents b (i + 1) all bytes given is parts.1)
 
-pub stored_true : (contents : List Content) (b : ℕ) (bytes : List ℕ) → IsGivenOut contents b → bytes_of contents b ≡ bytes → Each (HasTrueMark contents) (stored b bytes)
+pub stored_true : (contents : List Content) (b : ℕ) (bytes : List ℕ) → IsGivenOut contents b → bytes_of contents b ≡ bytes → Each (HasTrueMark contents) (stored_bytes b bytes)
 stored_true contents b bytes given is = stored_true_from contents b 0 bytes bytes given is refl

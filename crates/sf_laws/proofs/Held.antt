@@ -2,11 +2,11 @@
 use Rattle.std.proofs.Common.{◌≡◌, ℕ, zero, suc, ◌+◌, ◌-◌, ◌≤◌, true, false, cond, List, [], ◌∷◌, ◌++◌, length, take, Option, Some, None, refl, subst, arith}
 use Rattle.std.specs.List.{AllByRecursion as Each}
 use Rattle.std.proofs.lemmas.List.{take_all}
-use Rattle.sf_types.specs.NameMaps.{is_name_of, get}
+use Rattle.sf_types.specs.Inside.NameMaps.{is_same_name, get}
 use Rattle.sf_types.proofs.NameMapLemmas.{same_name}
-use Rattle.sf_types.specs.Values.{Marked, Value}
-use Rattle.sf_types.specs.Table.{Rows, Session, Table}
-use Rattle.sf_types.specs.Versions.{or_absent, later, said, at, current}
+use Rattle.sf_types.specs.Values.Marks.{Marked, Value}
+use Rattle.sf_types.specs.Table.Parts.{Rows, Session, Table}
+use Rattle.sf_types.specs.Table.Versions.{value_or_absent, later_change, last_change, value_at, current_value}
 use Rattle.sf_laws.proofs.Each.{each_weaker}
 
 abbrev pub OfOption : (Marked → Type 0) → Option Value → Type 0
@@ -18,7 +18,7 @@ OfRows M rows = Each (λ e. OfOption M e.1) rows
 
 -- Of an entry of a commit, where it is kept: where none of the commits after it up to the floor names its row.
 abbrev pub OfKept : (Marked → Type 0) → List Rows → List ℕ × Option Value → Type 0
-OfKept M upto e = said upto e.0 ≡ None → OfOption M e.1
+OfKept M upto e = last_change upto e.0 ≡ None → OfOption M e.1
 
 abbrev pub OfVersions : (Marked → Type 0) → ℕ → List Rows → Type 0
 OfVersions M floor [] = Unit {0}
@@ -33,54 +33,54 @@ pub record Held (M : Marked → Type 0) (floor : ℕ) (t : Table) : Type 0 where
   pub versions : OfVersions M floor t.commits
   pub sessions : Each (OfSession M) t.sessions
 
-of_get : (M : Marked → Type 0) (upto : List Rows) (c : Rows) (row : List ℕ) → Each (OfKept M upto) c → said upto row ≡ None → OfOption M (or_absent (get c row))
+of_get : (M : Marked → Type 0) (upto : List Rows) (c : Rows) (row : List ℕ) → Each (OfKept M upto) c → last_change upto row ≡ None → OfOption M (value_or_absent (get c row))
 of_get M upto [] row all none = tt
 of_get M upto (e ∷ c) row all none =
-    elim (is_name_of row e.0) as (λ b. is_name_of row e.0 ≡ b → OfOption M (or_absent (cond b (Some e.1) (get c row)))) [
-      | true ↦ λ is. all.0 (subst (λ n. said upto n ≡ None) (same_name row e.0 is) none)
+    elim (is_same_name row e.0) as (λ b. is_same_name row e.0 ≡ b → OfOption M (value_or_absent (cond b (Some e.1) (get c row)))) [
+      | true ↦ λ is. all.0 (subst (λ n. last_change upto n ≡ None) (same_name row e.0 is) none)
       | false ↦ λ is. of_get M upto c row all.1 none
     ] refl
 
 -- commits that don't name a row
-pub later_none : (a b : Option (Option Value)) → later a b ≡ None → (a ≡ None) × (b ≡ None)
+pub later_none : (a b : Option (Option Value)) → later_change a b ≡ None → (a ≡ None) × (b ≡ None)
 later_none a None is = (is, refl)
 later_none a (Some b) is = absurd cc
 
-both_none : (a b : Option (Option Value)) → a ≡ None → b ≡ None → later a b ≡ None
+both_none : (a b : Option (Option Value)) → a ≡ None → b ≡ None → later_change a b ≡ None
 both_none a b is none = rw (is, none) refl
 
-pub said_none_front : (cs : List Rows) (row : List ℕ) (k m : ℕ) → k ≤ m → said (take m cs) row ≡ None → said (take k cs) row ≡ None
+pub said_none_front : (cs : List Rows) (row : List ℕ) (k m : ℕ) → k ≤ m → last_change (take m cs) row ≡ None → last_change (take k cs) row ≡ None
 said_none_front cs row zero m le none = refl
 said_none_front [] row (suc k) m le none = refl
 said_none_front (c ∷ cs) row (suc k) zero le none = absurd (omega arith)
 said_none_front (c ∷ cs) row (suc k) (suc m) le none =
-    let parts = later_none (get c row) (said (take m cs) row) none in
-    both_none (get c row) (said (take k cs) row) parts.0 (said_none_front cs row k m (omega arith) parts.1)
+    let parts = later_none (get c row) (last_change (take m cs) row) none in
+    both_none (get c row) (last_change (take k cs) row) parts.0 (said_none_front cs row k m (omega arith) parts.1)
 
-pub said_none_push : (cs ds : List Rows) (row : List ℕ) (k : ℕ) → said (take k (cs ++ ds)) row ≡ None → said (take k cs) row ≡ None
+pub said_none_push : (cs ds : List Rows) (row : List ℕ) (k : ℕ) → last_change (take k (cs ++ ds)) row ≡ None → last_change (take k cs) row ≡ None
 said_none_push cs ds row zero none = refl
 said_none_push [] ds row (suc k) none = refl
 said_none_push (c ∷ cs) ds row (suc k) none =
-    let parts = later_none (get c row) (said (take k (cs ++ ds)) row) none in
-    both_none (get c row) (said (take k cs) row) parts.0 (said_none_push cs ds row k parts.1)
+    let parts = later_none (get c row) (last_change (take k (cs ++ ds)) row) none in
+    both_none (get c row) (last_change (take k cs) row) parts.0 (said_none_push cs ds row k parts.1)
 
 -- what a row held after some commits that reach the floor
-pub of_said : (M : Marked → Type 0) (floor : ℕ) (cs : List Rows) (row : List ℕ) (m : ℕ) → OfVersions M floor cs → floor ≤ m → OfOption M (or_absent (said (take m cs) row))
+pub of_said : (M : Marked → Type 0) (floor : ℕ) (cs : List Rows) (row : List ℕ) (m : ℕ) → OfVersions M floor cs → floor ≤ m → OfOption M (value_or_absent (last_change (take m cs) row))
 of_said M floor [] row zero all le = tt
 of_said M floor [] row (suc m) all le = tt
 of_said M floor (c ∷ cs) row zero all le = tt
 of_said M floor (c ∷ cs) row (suc m) all le =
-    elim (said (take m cs) row) as (λ o. said (take m cs) row ≡ o → OfOption M (or_absent (later (get c row) o))) [
+    elim (last_change (take m cs) row) as (λ o. last_change (take m cs) row ≡ o → OfOption M (value_or_absent (later_change (get c row) o))) [
       | None ↦ λ is. of_get M (take (floor - 1) cs) c row all.0 (said_none_front cs row (floor - 1) m (omega arith) is)
-      | Some x ↦ λ is. subst (λ o. OfOption M (or_absent o)) is (of_said M (floor - 1) cs row m all.1 (omega arith))
+      | Some x ↦ λ is. subst (λ o. OfOption M (value_or_absent o)) is (of_said M (floor - 1) cs row m all.1 (omega arith))
     ] refl
 
-pub of_at : (M : Marked → Type 0) (floor : ℕ) (t : Table) (row : List ℕ) (n : ℕ) → Held M floor t → floor ≤ n → OfOption M (at t row n)
+pub of_at : (M : Marked → Type 0) (floor : ℕ) (t : Table) (row : List ℕ) (n : ℕ) → Held M floor t → floor ≤ n → OfOption M (value_at t row n)
 of_at M floor t row n held le = of_said M floor t.commits row n held.versions le
 
-pub of_current : (M : Marked → Type 0) (floor : ℕ) (t : Table) (row : List ℕ) → Held M floor t → OfOption M (current t row)
+pub of_current : (M : Marked → Type 0) (floor : ℕ) (t : Table) (row : List ℕ) → Held M floor t → OfOption M (current_value t row)
 of_current M floor t row held =
-    subst (λ cs. OfOption M (or_absent (said cs row))) (take_all (length t.commits + floor) t.commits (omega arith))
+    subst (λ cs. OfOption M (value_or_absent (last_change cs row))) (take_all (length t.commits + floor) t.commits (omega arith))
     (of_said M floor t.commits row (length t.commits + floor) held.versions (omega arith))
 
 -- a higher floor keeps fewer versions

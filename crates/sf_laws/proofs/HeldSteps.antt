@@ -5,16 +5,16 @@ use Rattle.std.specs.List.{AllByRecursion as Each}
 use Rattle.std.specs.Option.{option_map_or}
 use Rattle.sf_types.specs.declared.call.Call.{Call}
 use Rattle.sf_types.specs.declared.options.Options.{Options}
-use Rattle.sf_types.specs.NameMaps.{NameMap, is_name_of, put}
-use Rattle.sf_types.specs.Values.{Marked, Value, empty_value}
-use Rattle.sf_types.specs.Table.{Locator, Savepoint, Session, Table, new_session}
-use Rattle.sf_types.specs.Versions.{at, current}
-use Rattle.sf_types.specs.Sessions.{has_session, session_of, with_session, row_value}
-use Rattle.sf_types.specs.LocatorCalls.{locator, no_locator}
-use Rattle.sf_types.specs.WritingCalls.{source_at, source_value, old_value, result_of, written}
-use Rattle.sf_types.specs.Savepoints.{lost, lost_where, up_to, is_since}
-use Rattle.sf_types.specs.Ends.{committed, floor_after}
-use Rattle.sf_types.specs.Step.{step}
+use Rattle.sf_types.specs.Inside.NameMaps.{NameMap, is_same_name, with_entry}
+use Rattle.sf_types.specs.Values.Marks.{Marked, Value, empty_value}
+use Rattle.sf_types.specs.Table.Parts.{Locator, Savepoint, Session, Table, new_session}
+use Rattle.sf_types.specs.Table.Versions.{value_at, current_value}
+use Rattle.sf_types.specs.Table.Sessions.{has_session, session_of, with_session, row_value}
+use Rattle.sf_types.specs.Calls.LocatorCalls.{locator, no_locator}
+use Rattle.sf_types.specs.Calls.WritingCalls.{source_name, source_value, old_value, result_of, after_write}
+use Rattle.sf_types.specs.Calls.Savepoints.{lost_locator, with_losses, savepoints_up_to, is_since}
+use Rattle.sf_types.specs.Calls.TransactionEnds.{after_commit, floor_after}
+use Rattle.sf_types.specs.Calls.Steps.{step}
 use Rattle.sf_laws.proofs.Each.{each_weaker, each-append, each-filter, each-map, each-set, each_at, each_found}
 use Rattle.sf_laws.proofs.EachEntry.{each-put, each-without, each_get_or}
 use Rattle.sf_laws.proofs.Held.{OfOption, OfRows, OfSession, Held, of_at, of_current, versions_above, versions_push}
@@ -52,36 +52,36 @@ pub of_result : (M : Marked → Type 0) → OfUnstored M → (p : Session) (valu
 of_result M un p value name c own is =
     edited_holds M un c (old_value p value name).bytes (source_value p c).bytes
     (of_unwrapped M (row_value p value (locator p name).row) (of_row M p value (locator p name).row own is))
-    (of_source M p (source_at c) own)
+    (of_source M p (source_name c) own)
 
-with_locator : (M : Marked → Type 0) (p : Session) (to : List ℕ) (l : Locator) → OfSession M p → Each M l.value.bytes → OfSession M (record p { locators = put p.locators to l })
+with_locator : (M : Marked → Type 0) (p : Session) (to : List ℕ) (l : Locator) → OfSession M p → Each M l.value.bytes → OfSession M (record p { locators = with_entry p.locators to l })
 with_locator M p to l own is = record { working = own.working; locators = each-put (λ e. Each M e.1.value.bytes) p.locators to l is own.locators; savepoints = own.savepoints }
 
-pub of_written : (M : Marked → Type 0) (p : Session) (name : List ℕ) (v : Value) → OfSession M p → Each M v.bytes → OfSession M (written p name v)
+pub of_written : (M : Marked → Type 0) (p : Session) (name : List ℕ) (v : Value) → OfSession M p → Each M v.bytes → OfSession M (after_write p name v)
 of_written M p name v own is = record {
   working = each-put (λ e. OfOption M e.1) p.working (locator p name).row (Some v) is own.working;
   locators = each-put (λ e. Each M e.1.value.bytes) p.locators name _ is own.locators;
   savepoints = own.savepoints;
 }
 
-lost_holds : (M : Marked → Type 0) (b : Bool) (l : Locator) → Each M l.value.bytes → Each M (cond b (lost l) l).value.bytes
+lost_holds : (M : Marked → Type 0) (b : Bool) (l : Locator) → Each M l.value.bytes → Each M (cond b (lost_locator l) l).value.bytes
 lost_holds M true l is = tt
 lost_holds M false l is = is
 
-of_lost : (M : Marked → Type 0) (is_gone : Locator → Bool) (locators : NameMap Locator) → Each (λ e. Each M e.1.value.bytes) locators → Each (λ e. Each M e.1.value.bytes) (lost_where is_gone locators)
+of_lost : (M : Marked → Type 0) (is_gone : Locator → Bool) (locators : NameMap Locator) → Each (λ e. Each M e.1.value.bytes) locators → Each (λ e. Each M e.1.value.bytes) (with_losses is_gone locators)
 of_lost M is_gone locators all =
-    each-map (λ e. Each M e.1.value.bytes) (λ e. (e.0, cond (is_gone e.1) (lost e.1) e.1)) locators
-    (each_weaker (λ e. Each M e.1.value.bytes) (λ e. Each M (cond (is_gone e.1) (lost e.1) e.1).value.bytes) locators (λ e is. lost_holds M (is_gone e.1) e.1 is) all)
+    each-map (λ e. Each M e.1.value.bytes) (λ e. (e.0, cond (is_gone e.1) (lost_locator e.1) e.1)) locators
+    (each_weaker (λ e. Each M e.1.value.bytes) (λ e. Each M (cond (is_gone e.1) (lost_locator e.1) e.1).value.bytes) locators (λ e is. lost_holds M (is_gone e.1) e.1 is) all)
 
-pub each-up_to : (P : Savepoint → Type 0) (name : List ℕ) (xs : List Savepoint) → Each P xs → Each P (up_to name xs)
+pub each-up_to : (P : Savepoint → Type 0) (name : List ℕ) (xs : List Savepoint) → Each P xs → Each P (savepoints_up_to name xs)
 each-up_to P name [] all = tt
 each-up_to P name (x ∷ xs) all =
-    elim (is_name_of name x.name) as (λ b. Each P (cond b (x ∷ []) (x ∷ up_to name xs))) [
+    elim (is_same_name name x.name) as (λ b. Each P (cond b (x ∷ []) (x ∷ savepoints_up_to name xs))) [
       | true ↦ (all.0, tt)
       | false ↦ (all.0, each-up_to P name xs all.1)
     ]
 
-pub of_committed : (M : Marked → Type 0) (p : Session) → OfSession M p → OfSession M (committed p)
+pub of_committed : (M : Marked → Type 0) (p : Session) → OfSession M p → OfSession M (after_commit p)
 of_committed M p own = record { working = tt; locators = each-map (λ e. Each M e.1.value.bytes) (λ e. (e.0, record e.1 { is_dirty = false })) p.locators own.locators; savepoints = tt }
 
 pub floor_rises : (options : Options) (floor n : ℕ) → floor ≤ floor_after options floor n
@@ -99,21 +99,21 @@ held_cases M un floor t s le held =
       refused = held;
       inserted = λ row busy. of_table M floor t _ s _ held refl refl (record { working = each-put (λ e. OfOption M e.1) p.working row (Some empty_value) tt own.working; locators = own.locators; savepoints = own.savepoints });
       deleted = λ row busy. of_table M floor t _ s _ held refl refl (record { working = each-put (λ e. OfOption M e.1) p.working row None tt own.working; locators = own.locators; savepoints = own.savepoints });
-      locked = λ to row busy. of_table M floor t _ s _ held refl refl (record { working = own.working; locators = each-put (λ e. Each M e.1.value.bytes) p.locators to _ (of_unwrapped M (row_value p (current t row) row) (of_row M p (current t row) row own (of_current M floor t row held))) own.locators; savepoints = own.savepoints });
-      selected = λ to row. of_table M floor t _ s _ held refl refl (with_locator M p to _ own (of_unwrapped M (row_value p (current t row) row) (of_row M p (current t row) row own (of_current M floor t row held))));
-      selected_as_of = λ to row n from. of_table M floor t _ s _ held refl refl (with_locator M p to _ own (of_unwrapped M (at t row n) (of_at M floor t row n held (omega arith))));
+      locked = λ to row busy. of_table M floor t _ s _ held refl refl (record { working = own.working; locators = each-put (λ e. Each M e.1.value.bytes) p.locators to _ (of_unwrapped M (row_value p (current_value t row) row) (of_row M p (current_value t row) row own (of_current M floor t row held))) own.locators; savepoints = own.savepoints });
+      selected = λ to row. of_table M floor t _ s _ held refl refl (with_locator M p to _ own (of_unwrapped M (row_value p (current_value t row) row) (of_row M p (current_value t row) row own (of_current M floor t row held))));
+      selected_as_of = λ to row n from. of_table M floor t _ s _ held refl refl (with_locator M p to _ own (of_unwrapped M (value_at t row n) (of_at M floor t row n held (omega arith))));
       assigned = λ to from. of_table M floor t _ s _ held refl refl (with_locator M p to _ own (of_locator M p from own));
       freed = λ name. of_table M floor t _ s _ held refl refl (record { working = own.working; locators = each-without (λ e. Each M e.1.value.bytes) p.locators name own.locators; savepoints = own.savepoints });
-      written = λ name c is. of_table M floor t _ s _ held refl refl (of_written M p name _ own (of_result M un p (current t (locator p name).row) name c own (of_current M floor t (locator p name).row held)));
-      saved = λ name. of_table M floor t _ s _ held refl refl (record { working = own.working; locators = own.locators; savepoints = each-append (λ x. OfRows M x.working) _ _ (each-filter (λ x. OfRows M x.working) (λ x. not (is_name_of name x.name)) p.savepoints own.savepoints) (own.working, tt) });
+      written = λ name c is. of_table M floor t _ s _ held refl refl (of_written M p name _ own (of_result M un p (current_value t (locator p name).row) name c own (of_current M floor t (locator p name).row held)));
+      saved = λ name. of_table M floor t _ s _ held refl refl (record { working = own.working; locators = own.locators; savepoints = each-append (λ x. OfRows M x.working) _ _ (each-filter (λ x. OfRows M x.working) (λ x. not (is_same_name name x.name)) p.savepoints own.savepoints) (own.working, tt) });
       gone_back = λ name x is. of_table M floor t _ s _ held refl refl (record {
-        working = (each_found (λ y. OfRows M y.working) (λ y. is_name_of name y.name) p.savepoints x is own.savepoints).0;
+        working = (each_found (λ y. OfRows M y.working) (λ y. is_same_name name y.name) p.savepoints x is own.savepoints).0;
         locators = of_lost M (is_since x) p.locators own.locators;
         savepoints = each-up_to (λ y. OfRows M y.working) x.name p.savepoints own.savepoints;
       });
       committed = record {
         versions = versions_push M floor t.commits p.working held.versions own.working;
-        sessions = each-set (OfSession M) t.sessions (s - 1) (committed p) (of_committed M p own) held.sessions;
+        sessions = each-set (OfSession M) t.sessions (s - 1) (after_commit p) (of_committed M p own) held.sessions;
       };
       erased = of_table M floor t _ s _ held refl refl (record { working = own.working; locators = own.locators; savepoints = tt });
       rolled_back = of_table M floor t _ s _ held refl refl (record { working = tt; locators = of_lost M (λ l. l.is_dirty) p.locators own.locators; savepoints = tt });

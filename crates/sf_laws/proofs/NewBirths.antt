@@ -5,12 +5,12 @@ use Rattle.std.specs.Prelude.{Contains, is_some}
 use Rattle.std.specs.List.{AllByRecursion as Each}
 use Rattle.sf_types.specs.declared.call.Call.{Call}
 use Rattle.sf_types.specs.declared.history.Kind.{Kind}
-use Rattle.sf_types.specs.Table.{Content, Table}
-use Rattle.sf_types.specs.Cuts.{Cut}
-use Rattle.sf_types.specs.Reach.{reach}
-use Rattle.sf_types.specs.Promises.{found, flush_cuts}
-use Rattle.sf_types.specs.Publications.{contents_with, reached_with}
-use Rattle.sf_types.specs.Orders.{IsLegal, applied}
+use Rattle.sf_types.specs.Table.Parts.{Content, Table}
+use Rattle.sf_types.specs.Space.Cuts.{Cut}
+use Rattle.sf_types.specs.Space.Reach.{reach}
+use Rattle.sf_types.specs.Space.Promises.{found_birth, flush_cuts}
+use Rattle.sf_types.specs.Space.Publications.{contents_with, reached_with}
+use Rattle.sf_types.specs.Orders.Histories.{IsLegal, entry_effect}
 use Rattle.sf_laws.specs.TrueMarks.{HasTrueMarks}
 use Rattle.sf_laws.proofs.Each.{each_weaker, each_itself, each-append}
 use Rattle.sf_laws.proofs.GivenBirths.{reached_after, goes_on_with}
@@ -35,10 +35,10 @@ new-after : (old : List ℕ) (count : ℕ) (contents : List Content) (reached : 
 new-after old count contents reached [] le all = all
 new-after old count contents reached (cut ∷ rest) le all =
     new-after old count (contents_with contents reached cut) (reached_with contents reached cut) rest (count-where count contents reached cut le)
-    (new-where old count contents reached (found contents reached cut) le all)
+    (new-where old count contents reached (found_birth contents reached cut) le all)
 
 -- what is in reach after a legal entry was in reach before, or is new
-pub old-or-new : (t : Table) (s : ℕ) (k : Kind) (c : Call) → IsLegal t s k c → HasTrueMarks t → Each (IsOldOrNew (reach t) (length t.contents)) (reach (applied t s k c).0)
+pub old-or-new : (t : Table) (s : ℕ) (k : Kind) (c : Call) → IsLegal t s k c → HasTrueMarks t → Each (IsOldOrNew (reach t) (length t.contents)) (reach (entry_effect t s k c).0)
 old-or-new t s k c legal marks =
     let P = IsOldOrNew (reach t) (length t.contents) in
     let own : Each P (reach t) = each_weaker (Contains (reach t)) P (reach t) (λ b within. inl within) (each_itself (reach t)) in

@@ -3,13 +3,13 @@ use Rattle.std.proofs.Common.{ℕ, ◌+◌, ◌-◌, ◌≤◌, IsTrue, List, []
 use Rattle.std.specs.List.{AllByRecursion as Each}
 use Rattle.std.specs.Option.{option_map_or}
 use Rattle.sf_types.specs.declared.call.Call.{Call}
-use Rattle.sf_types.specs.Table.{Content, Promise, Session, Table, new_session}
-use Rattle.sf_types.specs.Sessions.{has_session, session_of, with_session}
-use Rattle.sf_types.specs.Cuts.{Cut, stored_from}
-use Rattle.sf_types.specs.Reach.{reach}
-use Rattle.sf_types.specs.Promises.{flush_cuts, at_floor, granted, cancel}
-use Rattle.sf_types.specs.Publications.{births_for, contents_after, publish}
-use Rattle.sf_types.specs.Step.{step}
+use Rattle.sf_types.specs.Table.Parts.{Content, Promise, Session, Table, new_session}
+use Rattle.sf_types.specs.Table.Sessions.{has_session, session_of, with_session}
+use Rattle.sf_types.specs.Space.Cuts.{Cut, stored_bytes_from}
+use Rattle.sf_types.specs.Space.Reach.{reach}
+use Rattle.sf_types.specs.Space.Promises.{flush_cuts, with_floor, with_promise, cancel}
+use Rattle.sf_types.specs.Space.Publications.{births_for, contents_after, publish}
+use Rattle.sf_types.specs.Calls.Steps.{step}
 use Rattle.sf_laws.specs.TrueMarks.{IsGivenOut}
 use Rattle.sf_laws.proofs.Each.{each-set, each_at, each_contained}
 use Rattle.sf_laws.proofs.Held.{OfSession, Held}
@@ -40,7 +40,7 @@ reach_stepped P t s c has all =
     reach_changed P t (step t s c).0 s (session_of t s).promise t.contents of (step_changed t s c has) (found_part P t s of)
     (held_step (OfBirth P) (unstored_birth P) t.floor t s c has (omega arith) of.held)
 
-stored_by : (P : ℕ → Type 0) (b i : ℕ) (bytes : List ℕ) → P b → Each (OfBirth P) (stored_from b i bytes)
+stored_by : (P : ℕ → Type 0) (b i : ℕ) (bytes : List ℕ) → P b → Each (OfBirth P) (stored_bytes_from b i bytes)
 stored_by P b i [] is = tt
 stored_by P b i (x ∷ bytes) is = (is, stored_by P b (i + 1) bytes is)
 
@@ -59,11 +59,11 @@ reach_published P t s c given all =
     (held_publish (OfBirth P) (unstored_birth P) t.floor t s c of.held
     (paired_births P after (reached_after t.contents (reach t) cuts) cuts (births_for t.contents (reach t) cuts) all (births_given t.contents (reach t) cuts given)))
 
-pub reach_at_floor : (P : ℕ → Type 0) (t : Table) (h : ℕ) → t.floor ≤ h → Each P (reach t) → Each P (reach (at_floor t h))
+pub reach_at_floor : (P : ℕ → Type 0) (t : Table) (h : ℕ) → t.floor ≤ h → Each P (reach t) → Each P (reach (with_floor t h))
 reach_at_floor P t h le all =
     let of = each_from_reach P t all in
     let held = held_above (OfBirth P) t.floor h t le of.held in
-    each-reach P (at_floor t h) (record { held = record { versions = held.versions; sessions = held.sessions }; found = of.found })
+    each-reach P (with_floor t h) (record { held = record { versions = held.versions; sessions = held.sessions }; found = of.found })
 
 with_promise : (P : ℕ → Type 0) (t : Table) (s : ℕ) (promise : Option Promise) → OfFound P promise → Each P (reach t) → Each P (reach (with_session t s (record (session_of t s) { promise = promise })))
 with_promise P t s promise found all =
@@ -75,8 +75,8 @@ with_promise P t s promise found all =
       found = each-set (λ x. OfFound P x.promise) t.sessions (s - 1) part found of.found;
     })
 
-pub reach_granted : (P : ℕ → Type 0) (t : Table) (s : ℕ) (c : Call) (cuts : List Cut) (h : ℕ) → Each P (reach (at_floor t h)) → Each P (reach (granted t s c cuts h))
-reach_granted P t s c cuts h all = with_promise P (at_floor t h) s (Some _) (each-found_births P t.contents (reach (at_floor t h)) cuts all) all
+pub reach_granted : (P : ℕ → Type 0) (t : Table) (s : ℕ) (c : Call) (cuts : List Cut) (h : ℕ) → Each P (reach (with_floor t h)) → Each P (reach (with_promise t s c cuts h))
+reach_granted P t s c cuts h all = with_promise P (with_floor t h) s (Some _) (each-found_births P t.contents (reach (with_floor t h)) cuts all) all
 
 pub reach_cancelled : (P : ℕ → Type 0) (t : Table) (s : ℕ) → Each P (reach t) → Each P (reach (cancel t s))
 reach_cancelled P t s all = with_promise P t s None tt all

@@ -4,11 +4,11 @@ use Rattle.std.specs.Prelude.{flat_map, is_none, nat_lt, slice_index_or, ◌==�
 use Rattle.std.specs.List.{AllByRecursion as Each, filter_map, range_with_len}
 use Rattle.std.specs.Option.{option_map_or, IfSome}
 use Rattle.std.proofs.lemmas.Bool.Decides.{nat_tests, Decides-eqb}
-use Rattle.sf_types.specs.Births.{with_birth, rising}
-use Rattle.sf_types.specs.Values.{Marked, Value, birth_of_mark, births_in}
-use Rattle.sf_types.specs.Table.{Promise, Rows, Session, Table}
-use Rattle.sf_types.specs.Versions.{said}
-use Rattle.sf_types.specs.Reach.{Holding, OfVersion, is_kept, version_holding, version_holdings, values_in, session_values, session_births, promise_holding, session_holdings, holdings, reach}
+use Rattle.sf_types.specs.Inside.Births.{with_birth, rising_births}
+use Rattle.sf_types.specs.Values.Marks.{Marked, Value, birth_of_mark, births_in}
+use Rattle.sf_types.specs.Table.Parts.{Promise, Rows, Session, Table}
+use Rattle.sf_types.specs.Table.Versions.{last_change}
+use Rattle.sf_types.specs.Space.Reach.{Holding, OfVersion, is_kept, version_holding, version_holdings, values_in, session_values, session_births, promise_holding, session_holdings, holdings, reach}
 use Rattle.sf_laws.specs.TrueMarks.{found_by}
 use Rattle.sf_laws.proofs.Each.{each_weaker, each-append, each_left, each_right, each-map, each_from_map, each-flat_map, each_from_flat_map, each-filter_map, each_from_filter_map}
 use Rattle.sf_laws.proofs.Held.{OfRows, OfKept, OfVersions, OfSession, Held}
@@ -47,13 +47,13 @@ each_from_with_birth P b (c ∷ bs) all =
       ] refl
     ] all
 
-pub each-rising : (P : ℕ → Type 0) (bs : List ℕ) → Each P bs → Each P (rising bs)
+pub each-rising : (P : ℕ → Type 0) (bs : List ℕ) → Each P bs → Each P (rising_births bs)
 each-rising P [] all = tt
-each-rising P (b ∷ bs) all = each-with_birth P b (rising bs) all.0 (each-rising P bs all.1)
+each-rising P (b ∷ bs) all = each-with_birth P b (rising_births bs) all.0 (each-rising P bs all.1)
 
-pub each_from_rising : (P : ℕ → Type 0) (bs : List ℕ) → Each P (rising bs) → Each P bs
+pub each_from_rising : (P : ℕ → Type 0) (bs : List ℕ) → Each P (rising_births bs) → Each P bs
 each_from_rising P [] all = tt
-each_from_rising P (b ∷ bs) all = let parts = each_from_with_birth P b (rising bs) all in (parts.0, each_from_rising P bs parts.1)
+each_from_rising P (b ∷ bs) all = let parts = each_from_with_birth P b (rising_births bs) all in (parts.0, each_from_rising P bs parts.1)
 
 -- the births in a value
 pub each-births_in : (P : ℕ → Type 0) (v : Value) → Each (OfBirth P) v.bytes → Each P (births_in v)
@@ -127,21 +127,21 @@ or_none : (b : Bool) (o : Option (Option Value)) → (b ≡ true → o ≡ None)
 or_none true o is = rw (is refl) refl
 or_none false o is = refl
 
-pub kept_is : (t : Table) (n : ℕ) (cs : List Rows) (row : List ℕ) → drop n t.commits ≡ cs → is_kept t row n ≡ is_none (said (take (t.floor - n) cs) row)
+pub kept_is : (t : Table) (n : ℕ) (cs : List Rows) (row : List ℕ) → drop n t.commits ≡ cs → is_kept t row n ≡ is_none (last_change (take (t.floor - n) cs) row)
 kept_is t n cs row at =
     let later : drop n (take t.floor t.commits) ≡ take (t.floor - n) cs = drop_of_take n t.floor t.commits ∙ ap (take (t.floor - n)) at in
-    ap (λ us. nat_lt t.floor n || is_none (said us row)) later
-    ∙ or_none (nat_lt t.floor n) (said (take (t.floor - n) cs) row) (λ lt. let gone : t.floor - n ≡ 0 = grind (arith, nat_tests) in ap (λ k. said (take k cs) row) gone)
+    ap (λ us. nat_lt t.floor n || is_none (last_change us row)) later
+    ∙ or_none (nat_lt t.floor n) (last_change (take (t.floor - n) cs) row) (λ lt. let gone : t.floor - n ≡ 0 = grind (arith, nat_tests) in ap (λ k. last_change (take k cs) row) gone)
 
-of_version : (P : ℕ → Type 0) (t : Table) (n : ℕ) (upto : List Rows) (e : List ℕ × Option Value) → ((row : List ℕ) → is_kept t row n ≡ is_none (said upto row)) → OfKept (OfBirth P) upto e → IfSome (version_holding t n e) (OfHolding P)
+of_version : (P : ℕ → Type 0) (t : Table) (n : ℕ) (upto : List Rows) (e : List ℕ × Option Value) → ((row : List ℕ) → is_kept t row n ≡ is_none (last_change upto row)) → OfKept (OfBirth P) upto e → IfSome (version_holding t n e) (OfHolding P)
 of_version P t n upto (row, None) kept is = tt
 of_version P t n upto (row, Some v) kept is =
     elim (is_kept t row n) as (λ b. is_kept t row n ≡ b → IfSome (cond b (Some (record { holder = OfVersion row n; births = births_in v })) None) (OfHolding P)) [
-      | true ↦ λ b. each-births_in P v (is (none_from (said upto row) (sym (kept row) ∙ b)))
+      | true ↦ λ b. each-births_in P v (is (none_from (last_change upto row) (sym (kept row) ∙ b)))
       | false ↦ λ b. tt
     ] refl
 
-from_version : (P : ℕ → Type 0) (t : Table) (n : ℕ) (upto : List Rows) (e : List ℕ × Option Value) → ((row : List ℕ) → is_kept t row n ≡ is_none (said upto row)) → IfSome (version_holding t n e) (OfHolding P) → OfKept (OfBirth P) upto e
+from_version : (P : ℕ → Type 0) (t : Table) (n : ℕ) (upto : List Rows) (e : List ℕ × Option Value) → ((row : List ℕ) → is_kept t row n ≡ is_none (last_change upto row)) → IfSome (version_holding t n e) (OfHolding P) → OfKept (OfBirth P) upto e
 from_version P t n upto (row, None) kept is none = tt
 from_version P t n upto (row, Some v) kept is none =
     let b : is_kept t row n ≡ true = kept row ∙ ap is_none none in
@@ -159,7 +159,7 @@ each-versions P t k (c ∷ cs) at all =
     let here = at_drop t.commits k c cs at in
     let first : slice_index_or t.commits (k + 1 - 1) [] ≡ c = ap (λ n. slice_index_or t.commits n []) (last_off k) ∙ get_or_from_slice_get t.commits k c [] here.0 in
     let less : t.floor - k - 1 ≡ t.floor - (k + 1) = omega arith in
-    let kept : (row : List ℕ) → is_kept t row (k + 1) ≡ is_none (said (take (t.floor - k - 1) cs) row) = λ row. kept_is t (k + 1) cs row here.1 ∙ ap (λ n. is_none (said (take n cs) row)) (sym less) in
+    let kept : (row : List ℕ) → is_kept t row (k + 1) ≡ is_none (last_change (take (t.floor - k - 1) cs) row) = λ row. kept_is t (k + 1) cs row here.1 ∙ ap (λ n. is_none (last_change (take n cs) row)) (sym less) in
     each-append (OfHolding P) (filter_map (version_holding t (k + 1)) (slice_index_or t.commits (k + 1 - 1) [])) (versions_from t (k + 1 + 1) (length cs))
     (subst (λ x. Each (OfHolding P) (filter_map (version_holding t (k + 1)) x)) (sym first)
     (each-filter_map (OfHolding P) (version_holding t (k + 1)) c (each_weaker (OfKept (OfBirth P) (take (t.floor - k - 1) cs)) (λ e. IfSome (version_holding t (k + 1) e) (OfHolding P)) c (λ e is. of_version P t (k + 1) (take (t.floor - k - 1) cs) e kept is) all.0)))
@@ -171,7 +171,7 @@ each_from_versions P t k (c ∷ cs) at all =
     let here = at_drop t.commits k c cs at in
     let first : slice_index_or t.commits (k + 1 - 1) [] ≡ c = ap (λ n. slice_index_or t.commits n []) (last_off k) ∙ get_or_from_slice_get t.commits k c [] here.0 in
     let less : t.floor - k - 1 ≡ t.floor - (k + 1) = omega arith in
-    let kept : (row : List ℕ) → is_kept t row (k + 1) ≡ is_none (said (take (t.floor - k - 1) cs) row) = λ row. kept_is t (k + 1) cs row here.1 ∙ ap (λ n. is_none (said (take n cs) row)) (sym less) in
+    let kept : (row : List ℕ) → is_kept t row (k + 1) ≡ is_none (last_change (take (t.floor - k - 1) cs) row) = λ row. kept_is t (k + 1) cs row here.1 ∙ ap (λ n. is_none (last_change (take n cs) row)) (sym less) in
     let front = each_left (OfHolding P) (filter_map (version_holding t (k + 1)) (slice_index_or t.commits (k + 1 - 1) [])) (versions_from t (k + 1 + 1) (length cs)) all in
     let back = each_right (OfHolding P) (filter_map (version_holding t (k + 1)) (slice_index_or t.commits (k + 1 - 1) [])) (versions_from t (k + 1 + 1) (length cs)) all in (
       each_weaker (λ e. IfSome (version_holding t (k + 1) e) (OfHolding P)) (OfKept (OfBirth P) (take (t.floor - k - 1) cs)) c (λ e is. from_version P t (k + 1) (take (t.floor - k - 1) cs) e kept is)

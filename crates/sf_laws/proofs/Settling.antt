@@ -4,9 +4,10 @@ use Rattle.std.proofs.lemmas.List.{length-map}
 use Rattle.std.specs.Prelude.{flat_map}
 use Rattle.std.specs.List.{AllByRecursion as Each}
 use Rattle.sf_types.specs.declared.options.Options.{Options}
-use Rattle.sf_types.specs.Values.{Marked, Value, fresh, is_fresh}
-use Rattle.sf_types.specs.Table.{Rows}
-use Rattle.sf_types.specs.Cuts.{Segment, Kept, Run, before, segments_of, contents_of_run, contents_of_segment, contents_of_value, Cut, cuts_of_value, cuts, stored, settled_contents, settled_segments, settle_value, settle}
+use Rattle.sf_types.specs.Values.Marks.{Marked, Value, fresh_bytes, is_fresh}
+use Rattle.sf_types.specs.Table.Parts.{Rows}
+use Rattle.sf_types.specs.Space.Cuts.{Segment, Kept, Stretch, with_byte_before, segments_of, contents_of_segment, contents_of_value, Cut, cuts_of_value, cuts, stored_bytes, settle_contents, settle_segments, settle_value, settle}
+use Rattle.sf_types.specs.Space.Contents.{contents_of_stretch}
 use Rattle.sf_laws.proofs.Each.{each-append}
 use Rattle.sf_laws.proofs.Held.{OfRows}
 use Rattle.sf_laws.proofs.HeldEdits.{OfUnstored, of_buffer}
@@ -38,38 +39,38 @@ paired_from_map R f (x ∷ xs) (b ∷ births) all = (all.0, paired_from_map R f 
 
 -- A content that a birth stores.
 abbrev pub OfStored : (Marked → Type 0) → List ℕ → ℕ → Type 0
-OfStored M bytes birth = Each M (stored birth bytes)
+OfStored M bytes birth = Each M (stored_bytes birth bytes)
 
 abbrev pub OfCut : (Marked → Type 0) → Cut → ℕ → Type 0
-OfCut M cut birth = Each M (stored birth cut.bytes)
+OfCut M cut birth = Each M (stored_bytes birth cut.bytes)
 
 abbrev OfSegment : (Marked → Type 0) → Segment → Type 0
 OfSegment M (Kept marked) = Each M marked
-OfSegment M (Run run) = Unit {0}
+OfSegment M (Stretch run) = Unit {0}
 
-of_before : (M : Marked → Type 0) (m : Marked) (segments : List Segment) → M m → Each (OfSegment M) segments → Each (OfSegment M) (before m segments)
-of_before M m [] is all = elim (is_fresh m) as (λ b. Each (OfSegment M) (cond b (Run (m.byte ∷ []) ∷ []) (Kept (m ∷ []) ∷ []))) [ true ↦ (tt, tt) | false ↦ ((is, tt), tt) ]
+of_before : (M : Marked → Type 0) (m : Marked) (segments : List Segment) → M m → Each (OfSegment M) segments → Each (OfSegment M) (with_byte_before m segments)
+of_before M m [] is all = elim (is_fresh m) as (λ b. Each (OfSegment M) (cond b (Stretch (m.byte ∷ []) ∷ []) (Kept (m ∷ []) ∷ []))) [ true ↦ (tt, tt) | false ↦ ((is, tt), tt) ]
 of_before M m (Kept marked ∷ segments) is all =
-    elim (is_fresh m) as (λ b. Each (OfSegment M) (cond b (Run (m.byte ∷ []) ∷ Kept marked ∷ segments) (Kept (m ∷ marked) ∷ segments))) [ true ↦ (tt, all) | false ↦ ((is, all.0), all.1) ]
-of_before M m (Run run ∷ segments) is all =
-    elim (is_fresh m) as (λ b. Each (OfSegment M) (cond b (Run (m.byte ∷ run) ∷ segments) (Kept (m ∷ []) ∷ Run run ∷ segments))) [ true ↦ (tt, all.1) | false ↦ ((is, tt), all) ]
+    elim (is_fresh m) as (λ b. Each (OfSegment M) (cond b (Stretch (m.byte ∷ []) ∷ Kept marked ∷ segments) (Kept (m ∷ marked) ∷ segments))) [ true ↦ (tt, all) | false ↦ ((is, all.0), all.1) ]
+of_before M m (Stretch run ∷ segments) is all =
+    elim (is_fresh m) as (λ b. Each (OfSegment M) (cond b (Stretch (m.byte ∷ run) ∷ segments) (Kept (m ∷ []) ∷ Stretch run ∷ segments))) [ true ↦ (tt, all.1) | false ↦ ((is, tt), all) ]
 
 of_segments : (M : Marked → Type 0) (ms : List Marked) → Each M ms → Each (OfSegment M) (segments_of ms)
 of_segments M [] all = tt
 of_segments M (m ∷ ms) all = of_before M m (segments_of ms) all.0 (of_segments M ms all.1)
 
-settled_run : (M : Marked → Type 0) → OfUnstored M → (contents : List (List ℕ)) (births : List ℕ) → Paired (OfStored M) contents births → Each M (settled_contents contents births)
+settled_run : (M : Marked → Type 0) → OfUnstored M → (contents : List (List ℕ)) (births : List ℕ) → Paired (OfStored M) contents births → Each M (settle_contents contents births)
 settled_run M un [] births all = tt
-settled_run M un (bytes ∷ contents) [] all = each-append M (fresh bytes) (settled_contents contents []) (of_buffer M un bytes) (settled_run M un contents [] (paired_none (OfStored M) contents))
-settled_run M un (bytes ∷ contents) (b ∷ births) all = each-append M (stored b bytes) (settled_contents contents births) all.0 (settled_run M un contents births all.1)
+settled_run M un (bytes ∷ contents) [] all = each-append M (fresh_bytes bytes) (settle_contents contents []) (of_buffer M un bytes) (settled_run M un contents [] (paired_none (OfStored M) contents))
+settled_run M un (bytes ∷ contents) (b ∷ births) all = each-append M (stored_bytes b bytes) (settle_contents contents births) all.0 (settled_run M un contents births all.1)
 
-settled_holds : (M : Marked → Type 0) → OfUnstored M → (segments : List Segment) (births : List ℕ) → Each (OfSegment M) segments → Paired (OfStored M) (flat_map contents_of_segment segments) births → Each M (settled_segments segments births)
+settled_holds : (M : Marked → Type 0) → OfUnstored M → (segments : List Segment) (births : List ℕ) → Each (OfSegment M) segments → Paired (OfStored M) (flat_map contents_of_segment segments) births → Each M (settle_segments segments births)
 settled_holds M un [] births all paired = tt
-settled_holds M un (Kept marked ∷ segments) births all paired = each-append M marked (settled_segments segments births) all.0 (settled_holds M un segments births all.1 paired)
-settled_holds M un (Run run ∷ segments) births all paired =
-    let contents = contents_of_run run in
+settled_holds M un (Kept marked ∷ segments) births all paired = each-append M marked (settle_segments segments births) all.0 (settled_holds M un segments births all.1 paired)
+settled_holds M un (Stretch run ∷ segments) births all paired =
+    let contents = contents_of_stretch run in
     let rest = flat_map contents_of_segment segments in
-    each-append M (settled_contents contents (take (length contents) births)) (settled_segments segments (drop (length contents) births))
+    each-append M (settle_contents contents (take (length contents) births)) (settle_segments segments (drop (length contents) births))
     (settled_run M un contents (take (length contents) births) (paired_front (OfStored M) contents rest births paired))
     (settled_holds M un segments (drop (length contents) births) all.1 (paired_rest (OfStored M) contents rest births paired))
 

@@ -8,15 +8,15 @@ use Rattle.std.proofs.lemmas.Option.{unwrap_or-slice_get}
 use Rattle.sf_types.specs.declared.call.Call.{Call}
 use Rattle.sf_types.specs.declared.call.Call.TheVariants as call
 use Rattle.sf_types.specs.declared.options.Options.{Options}
-use Rattle.sf_types.specs.Values.{Value, fresh_count}
-use Rattle.sf_types.specs.Table.{Content, Promise, Rows, Session, Table, new_session}
-use Rattle.sf_types.specs.Versions.{current}
-use Rattle.sf_types.specs.Sessions.{has_session, session_of, holds}
-use Rattle.sf_types.specs.Cuts.{Cut, cuts}
-use Rattle.sf_types.specs.WritingCalls.{written_at, writing_refusal, result_of}
-use Rattle.sf_types.specs.Due.{written_row, result_in, is_write_due, due_of, flush_of}
-use Rattle.sf_types.specs.Use.{promised_blocks}
-use Rattle.sf_types.specs.Promises.{wanted, flush_cuts}
+use Rattle.sf_types.specs.Values.Marks.{Value, fresh_count}
+use Rattle.sf_types.specs.Table.Parts.{Content, Promise, Rows, Session, Table, new_session}
+use Rattle.sf_types.specs.Table.Versions.{current_value}
+use Rattle.sf_types.specs.Table.Sessions.{has_session, session_of, holds_lock}
+use Rattle.sf_types.specs.Space.Cuts.{Cut, cuts}
+use Rattle.sf_types.specs.Calls.WritingCalls.{written_name, writing_refusal, result_of}
+use Rattle.sf_types.specs.Space.Due.{written_row, result_in, is_write_due, is_due_by, flush_of}
+use Rattle.sf_types.specs.Space.Use.{promised_blocks}
+use Rattle.sf_types.specs.Space.Promises.{wanted_blocks, flush_cuts}
 use Rattle.sf_laws.specs.TrueMarks.{IsGivenOut, found_by}
 use Rattle.sf_laws.specs.UseWithinCapacity.{HasLocked, IsEnough}
 use Rattle.sf_laws.proofs.Each.{each_at, each_itself}
@@ -58,43 +58,43 @@ sum_changed t u s promise contents has changed =
 abbrev due_by : Session → List ℕ → Call → Options → Bool → Option Value → Bool
 due_by p at c options is_held value = is_none (writing_refusal p is_held value at c) && nat_le options.gather (fresh_count (result_of p value at c))
 
-write_due_same : (t u : Table) (s : ℕ) (p : Session) (at : List ℕ) (c : Call) → u.options ≡ t.options → holds u.locks s (written_row p at) ≡ holds t.locks s (written_row p at) → current u (written_row p at) ≡ current t (written_row p at) → is_write_due u s p at c ≡ is_write_due t s p at c
+write_due_same : (t u : Table) (s : ℕ) (p : Session) (at : List ℕ) (c : Call) → u.options ≡ t.options → holds_lock u.locks s (written_row p at) ≡ holds_lock t.locks s (written_row p at) → current_value u (written_row p at) ≡ current_value t (written_row p at) → is_write_due u s p at c ≡ is_write_due t s p at c
 write_due_same t u s p at c options held value =
-    ap (λ o. due_by p at c o (holds u.locks s (written_row p at)) (current u (written_row p at))) options
-    ∙ ap (λ b. due_by p at c t.options b (current u (written_row p at))) held
-    ∙ ap (λ (v : Option Value). due_by p at c t.options (holds t.locks s (written_row p at)) v) value
+    ap (λ o. due_by p at c o (holds_lock u.locks s (written_row p at)) (current_value u (written_row p at))) options
+    ∙ ap (λ b. due_by p at c t.options b (current_value u (written_row p at))) held
+    ∙ ap (λ (v : Option Value). due_by p at c t.options (holds_lock t.locks s (written_row p at)) v) value
 
 -- Of a session's row that it has locked nothing has changed.
 pub record IsUnmoved (t : Table) (s : ℕ) (u : Table) : Type 0 where
   pub options : u.options ≡ t.options
-  pub locks : (row : List ℕ) → holds t.locks s row ≡ true → holds u.locks s row ≡ true
-  pub rows : (row : List ℕ) → holds t.locks s row ≡ true → current u row ≡ current t row
+  pub locks : (row : List ℕ) → holds_lock t.locks s row ≡ true → holds_lock u.locks s row ≡ true
+  pub rows : (row : List ℕ) → holds_lock t.locks s row ≡ true → current_value u row ≡ current_value t row
 
 -- a due call stays due, and flushes what it did
-write_unmoved : (t u : Table) (s : ℕ) (p : Session) (c : Call) → IsUnmoved t s u → ((at : List ℕ) → written_at c ≡ Some at → holds t.locks s (written_row p at) ≡ true) → (o : Option (List ℕ)) → written_at c ≡ o
+write_unmoved : (t u : Table) (s : ℕ) (p : Session) (c : Call) → IsUnmoved t s u → ((at : List ℕ) → written_name c ≡ Some at → holds_lock t.locks s (written_row p at) ≡ true) → (o : Option (List ℕ)) → written_name c ≡ o
     → option_map_or (λ at. is_write_due t s p at c) o false ≡ true
     → (option_map_or (λ at. is_write_due u s p at c) o false ≡ true) × (option_map_or {U = Rows} (λ at. (written_row p at, Some (result_in u p at c)) ∷ []) o [] ≡ option_map_or {U = Rows} (λ at. (written_row p at, Some (result_in t p at c)) ∷ []) o [])
 write_unmoved t u s p c same locked None at due = absurd cc
 write_unmoved t u s p c same locked (Some name) at due =
     let held = locked name at in
-    let row : current u (written_row p name) ≡ current t (written_row p name) = same.rows (written_row p name) held in (
+    let row : current_value u (written_row p name) ≡ current_value t (written_row p name) = same.rows (written_row p name) held in (
       write_due_same t u s p name c same.options (same.locks (written_row p name) held ∙ sym held) row ∙ due,
       ap (λ (v : Option Value). (written_row p name, Some (result_of p v name c)) ∷ []) row,
     )
 
-pub due_unmoved : (t u : Table) (s : ℕ) (p : Session) (c : Call) → IsUnmoved t s u → due_of t s p c ≡ true → (due_of u s p c ≡ true) × (flush_of u p c ≡ flush_of t p c)
+pub due_unmoved : (t u : Table) (s : ℕ) (p : Session) (c : Call) → IsUnmoved t s u → is_due_by t s p c ≡ true → (is_due_by u s p c ≡ true) × (flush_of u p c ≡ flush_of t p c)
 due_unmoved t u s p call.Commit same due = (due, refl)
-due_unmoved t u s p c same due = write_unmoved t u s p c same (λ at is. due_held t s p c at is due) (written_at c) refl due
+due_unmoved t u s p c same due = write_unmoved t u s p c same (λ at is. due_held t s p c at is due) (written_name c) refl due
 
 -- a promise changes nothing of what is due and flushed
-pub due_promised : (t : Table) (s : ℕ) (p : Session) (promise : Option Promise) (c : Call) → (due_of t s (record p { promise = promise }) c ≡ due_of t s p c) × (flush_of t (record p { promise = promise }) c ≡ flush_of t p c)
+pub due_promised : (t : Table) (s : ℕ) (p : Session) (promise : Option Promise) (c : Call) → (is_due_by t s (record p { promise = promise }) c ≡ is_due_by t s p c) × (flush_of t (record p { promise = promise }) c ≡ flush_of t p c)
 due_promised t s p promise call.Commit = (refl, refl)
 due_promised t s p promise c = (refl, refl)
 
-pub enough_from : (u : Table) (s : ℕ) (q : Promise) (p : Session) (rows : Rows) (options : Options) → session_of u s ≡ p → due_of u s p q.call ≡ true → flush_of u p q.call ≡ rows → u.options ≡ options → wanted u.contents q.births (cuts options rows) ≤ q.blocks → IsEnough u s q
+pub enough_from : (u : Table) (s : ℕ) (q : Promise) (p : Session) (rows : Rows) (options : Options) → session_of u s ≡ p → is_due_by u s p q.call ≡ true → flush_of u p q.call ≡ rows → u.options ≡ options → wanted_blocks u.contents q.births (cuts options rows) ≤ q.blocks → IsEnough u s q
 enough_from u s q p rows options own due flush same fits = record {
-  due = ap (λ (x : Session). due_of u s x q.call) own ∙ due;
-  blocks = subst (λ (of : List Cut). wanted u.contents q.births of ≤ q.blocks) (sym (ap (λ (x : Session). cuts u.options (flush_of u x q.call)) own ∙ ap (cuts u.options) flush ∙ ap (λ o. cuts o rows) same)) fits;
+  due = ap (λ (x : Session). is_due_by u s x q.call) own ∙ due;
+  blocks = subst (λ (of : List Cut). wanted_blocks u.contents q.births of ≤ q.blocks) (sym (ap (λ (x : Session). cuts u.options (flush_of u x q.call)) own ∙ ap (cuts u.options) flush ∙ ap (λ o. cuts o rows) same)) fits;
 }
 
 -- the promise of another session is enough still

@@ -3,7 +3,7 @@ use Rattle.std.proofs.Common.{◌≡◌, ℕ, ◌≤◌, ◌<◌, true, false, c
 use Rattle.std.specs.Prelude.{nat_lt, sum_by, Contains, ◌==◌}
 use Rattle.std.specs.List.{AllByRecursion as Each}
 use Rattle.std.proofs.lemmas.List.Sums.{sum_by-cons}
-use Rattle.sf_types.specs.Births.{IsBelowAll, IsRising, with_birth, rising}
+use Rattle.sf_types.specs.Inside.Births.{IsBelowAll, IsRising, with_birth, rising_births}
 use Rattle.sf_laws.proofs.Each.{each_weaker, each_contained, each_itself}
 use Rattle.sf_laws.proofs.Tests.{less, greater}
 
@@ -33,9 +33,9 @@ with_birth_rises b (c ∷ bs) rises =
       ] refl
     ] refl
 
-pub rising_rises : (bs : List ℕ) → IsRising (rising bs)
+pub rising_rises : (bs : List ℕ) → IsRising (rising_births bs)
 rising_rises [] = tt
-rising_rises (b ∷ bs) = with_birth_rises b (rising bs) (rising_rises bs)
+rising_rises (b ∷ bs) = with_birth_rises b (rising_births bs) (rising_rises bs)
 
 -- an element is the first or one of the rest
 first_or_rest : (b : ℕ) (bs : List ℕ) (a : ℕ) → Contains (b ∷ bs) a → (a ≡ b) ⊎ Contains bs a

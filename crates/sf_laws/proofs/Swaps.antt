@@ -3,8 +3,8 @@ use Rattle.std.proofs.Common.{◌≡◌, ℕ, ◌+◌, ◌-◌, ◌≤◌, ◌<�
 use Rattle.std.proofs.lemmas.List.{length-append, length-take-le, length-drop, take-append-drop, take-append-le, take_all, drop_at}
 use Rattle.std.specs.Prelude.{IsPermutation}
 use Rattle.std.proofs.lemmas.List.Sorted.{IsPermutation-append_comm, IsPermutation-append_left, IsPermutation-append_right}
-use Rattle.sf_types.specs.Values.{Marked}
-use Rattle.sf_types.specs.Edits.{moved_front, moved_back}
+use Rattle.sf_types.specs.Values.Marks.{Marked}
+use Rattle.sf_types.specs.Values.Edits.{move_front, move_back}
 use Rattle.sf_laws.specs.Splices.{IsSameOutside}
 
 -- four parts of a list, joined
@@ -58,13 +58,13 @@ swapped_outside a b c v le =
     }
 
 -- a move to the front exchanges the part and what it jumps over
-pub front-is : (v : List Marked) (amount from to : ℕ) → 1 ≤ to → to < from → moved_front v amount from to ≡ swapped (to - 1) (from - to) amount v
+pub front-is : (v : List Marked) (amount from to : ℕ) → 1 ≤ to → to < from → move_front v amount from to ≡ swapped (to - 1) (from - to) amount v
 front-is v amount from to some lt =
     let place : from - 1 ≡ to - 1 + (from - to) = omega (arith, some, lt) in
     ap (λ k. take (to - 1) v ++ take amount (drop k v) ++ take (from - to) (drop (to - 1) v) ++ drop (k + amount) v) place
 
 -- and so does a move to the back
-pub back-is : (v : List Marked) (amount from to : ℕ) → 1 ≤ from → from + amount < to → moved_back v amount from to ≡ swapped (from - 1) amount (to - (from + amount)) v
+pub back-is : (v : List Marked) (amount from to : ℕ) → 1 ≤ from → from + amount < to → move_back v amount from to ≡ swapped (from - 1) amount (to - (from + amount)) v
 back-is v amount from to some lt =
     let place : from + amount - 1 ≡ from - 1 + amount = omega (arith, some) in
     let end : to - 1 ≡ from - 1 + amount + (to - (from + amount)) = omega (arith, some, lt) in

@@ -7,15 +7,15 @@ use Rattle.std.proofs.lemmas.List.Elements.{All-from_recursion, recursion_from_A
 use Rattle.sf_types.specs.declared.call.Call.{Call}
 use Rattle.sf_types.specs.declared.history.Entry.{Entry}
 use Rattle.sf_types.specs.declared.options.Options.{Options}
-use Rattle.sf_types.specs.Values.{Mark, Zero, Fresh, Stored, Marked, Value}
-use Rattle.sf_types.specs.Table.{Content, Promise, Rows, Table, new_session, opening}
-use Rattle.sf_types.specs.Sessions.{has_session, session_of}
-use Rattle.sf_types.specs.Cuts.{Cut}
-use Rattle.sf_types.specs.Reach.{values_in, session_values, reach}
-use Rattle.sf_types.specs.Promises.{flush_cuts, at_floor}
-use Rattle.sf_types.specs.Publications.{births_for, contents_after, publish}
-use Rattle.sf_types.specs.Step.{step}
-use Rattle.sf_types.specs.Orders.{IsLegal, IsLegalRun, apply, table_after}
+use Rattle.sf_types.specs.Values.Marks.{Mark, Zero, Fresh, Stored, Marked, Value}
+use Rattle.sf_types.specs.Table.Parts.{Content, Promise, Rows, Table, new_session, opening_table}
+use Rattle.sf_types.specs.Table.Sessions.{has_session, session_of}
+use Rattle.sf_types.specs.Space.Cuts.{Cut}
+use Rattle.sf_types.specs.Space.Reach.{values_in, session_values, reach}
+use Rattle.sf_types.specs.Space.Promises.{flush_cuts, with_floor}
+use Rattle.sf_types.specs.Space.Publications.{births_for, contents_after, publish}
+use Rattle.sf_types.specs.Calls.Steps.{step}
+use Rattle.sf_types.specs.Orders.Histories.{IsLegal, IsLegalHistory, effect_of, table_after}
 use Rattle.sf_laws.specs.TrueMarks.{IsGivenOut, IsTrueMark, HasTrueMark, all_values, found_by, HasTrueMarks}
 use Rattle.sf_laws.proofs.Each.{each_weaker, each-append, each_left, each_right, each-flat_map, each_from_flat_map, each-replicate, each-set, each_at}
 use Rattle.sf_laws.proofs.Held.{OfOption, OfRows, OfKept, OfVersions, OfSession, Held, held_weaker}
@@ -137,7 +137,7 @@ true_cases t s c has are =
       refused = are;
       granted = λ none due h le fits. record {
         held = of_table (HasTrueMark t.contents) 0 t _ s _ are.held refl refl (record { working = own.working; locators = own.locators; savepoints = own.savepoints });
-        found = each-set (λ x. FoundGiven t.contents x.promise) t.sessions (s - 1) _ (each-found_births (IsGivenOut t.contents) t.contents (reach (at_floor t h)) (flush_cuts t s c) (reach_given (at_floor t h) (record { held = record { versions = are.held.versions; sessions = are.held.sessions }; found = are.found }))) are.found;
+        found = each-set (λ x. FoundGiven t.contents x.promise) t.sessions (s - 1) _ (each-found_births (IsGivenOut t.contents) t.contents (reach (with_floor t h)) (flush_cuts t s c) (reach_given (with_floor t h) (record { held = record { versions = are.held.versions; sessions = are.held.sessions }; found = are.found }))) are.found;
       };
       cancelled = λ q is. record {
         held = of_table (HasTrueMark t.contents) 0 t _ s _ are.held refl refl (record { working = own.working; locators = own.locators; savepoints = own.savepoints });
@@ -145,17 +145,17 @@ true_cases t s c has are =
       };
     }
 
-pub true_after : (t : Table) (e : Entry) → IsLegal t e.token.session e.token.kind e.call → HasTrueMarks t → HasTrueMarks (apply t e).0
+pub true_after : (t : Table) (e : Entry) → IsLegal t e.token.session e.token.kind e.call → HasTrueMarks t → HasTrueMarks (effect_of t e).0
 true_after t e legal has =
-    has_true_marks (apply t e).0 (by_entry_cases t e.token.session e.token.kind e.call AreTrue legal (true_cases t e.token.session e.call legal.session (are_true t has)))
+    has_true_marks (effect_of t e).0 (by_entry_cases t e.token.session e.token.kind e.call AreTrue legal (true_cases t e.token.session e.call legal.session (are_true t has)))
 
-pub true_opening : (options : Options) (sessions : ℕ) → HasTrueMarks (opening options sessions)
+pub true_opening : (options : Options) (sessions : ℕ) → HasTrueMarks (opening_table options sessions)
 true_opening options sessions =
-    has_true_marks (opening options sessions) (record {
+    has_true_marks (opening_table options sessions) (record {
       held = record { versions = tt; sessions = each-replicate (OfSession (HasTrueMark [])) sessions new_session (record { working = tt; locators = tt; savepoints = tt }) };
       found = each-replicate (λ p. Each (IsGivenOut []) (found_by p)) sessions new_session tt;
     })
 
-pub true_run : (t : Table) (history : List Entry) → IsLegalRun t history → HasTrueMarks t → HasTrueMarks (table_after t history)
+pub true_run : (t : Table) (history : List Entry) → IsLegalHistory t history → HasTrueMarks t → HasTrueMarks (table_after t history)
 true_run t [] legal has = has
-true_run t (e ∷ es) legal has = true_run (apply t e).0 es legal.1 (true_after t e legal.0 has)
+true_run t (e ∷ es) legal has = true_run (effect_of t e).0 es legal.1 (true_after t e legal.0 has)

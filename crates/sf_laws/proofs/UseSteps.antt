@@ -7,16 +7,16 @@ use Rattle.std.proofs.lemmas.List.Sums.{sum_by-cons}
 use Rattle.sf_types.specs.declared.call.Call.{Call}
 use Rattle.sf_types.specs.declared.history.Entry.{Entry}
 use Rattle.sf_types.specs.declared.options.Options.{Options}
-use Rattle.sf_types.specs.Births.{IsRising}
-use Rattle.sf_types.specs.Table.{Content, Promise, Session, Table, new_session, opening}
-use Rattle.sf_types.specs.Sessions.{has_session, session_of, with_session}
-use Rattle.sf_types.specs.Due.{is_due, flush_of}
-use Rattle.sf_types.specs.Reach.{holdings, reach}
-use Rattle.sf_types.specs.Use.{blocks_of_birth, blocks_of_births, promised_blocks, use_of, free_of}
-use Rattle.sf_types.specs.Promises.{found_births, wanted, flush_cuts, wanted_at, fits_at, at_floor, granted, cancel}
-use Rattle.sf_types.specs.Publications.{contents_after, publish}
-use Rattle.sf_types.specs.Step.{step}
-use Rattle.sf_types.specs.Orders.{IsLegal, IsLegalRun, apply, table_after, run_table}
+use Rattle.sf_types.specs.Inside.Births.{IsRising}
+use Rattle.sf_types.specs.Table.Parts.{Content, Promise, Session, Table, new_session, opening_table}
+use Rattle.sf_types.specs.Table.Sessions.{has_session, session_of, with_session}
+use Rattle.sf_types.specs.Space.Due.{is_due, flush_of}
+use Rattle.sf_types.specs.Space.Reach.{holdings, reach}
+use Rattle.sf_types.specs.Space.Use.{blocks_of_birth, blocks_of_births, promised_blocks, use_of, free_of}
+use Rattle.sf_types.specs.Space.Promises.{found_births, wanted_blocks, flush_cuts, wanted_blocks_at, fits_at, with_floor, with_promise, cancel}
+use Rattle.sf_types.specs.Space.Publications.{contents_after, publish}
+use Rattle.sf_types.specs.Calls.Steps.{step}
+use Rattle.sf_types.specs.Orders.Histories.{IsLegal, IsLegalHistory, effect_of, table_after, history_table}
 use Rattle.sf_laws.specs.TrueMarks.{IsGivenOut}
 use Rattle.sf_laws.specs.UseWithinCapacity.{HasLocked, IsEnough, IsWithinCapacity}
 use Rattle.sf_laws.proofs.Each.{each_at, each_itself, each-replicate}
@@ -48,7 +48,7 @@ blocks_among contents t u within = sum_among (blocks_of_birth contents) (reach u
 
 -- A session's promise and the floor changed, and nothing else.
 abbrev with_promise : Table → ℕ → ℕ → Option Promise → Table
-with_promise t s h promise = with_session (at_floor t h) s (record (session_of t s) { promise = promise })
+with_promise t s h promise = with_session (with_floor t h) s (record (session_of t s) { promise = promise })
 
 -- a table whose contents, births and promises are told
 use_is : (u : Table) (contents : List Content) → u.contents ≡ contents → use_of u ≡ blocks_of_births contents (reach u) + sum_by promised_blocks u.sessions
@@ -104,7 +104,7 @@ kept_published t s c has inv q is call =
     let found_within : Each (Contains (reach t)) q.births =
     subst (λ (o : Option Promise). Each (Contains (reach t)) (option_map_or (λ x. x.births) o [])) is (each_at (λ p. Each (Contains (reach t)) (option_map_or (λ x. x.births) p.promise [])) t.sessions (s - 1) new_session tt (each_from_reach (Contains (reach t)) t (each_itself (reach t))).found) in
     let falls = wanted_falls t.contents t.contents q.births (reach t) of (goes_on_same t.contents) found_given found_within in
-    let blocks : wanted t.contents q.births of ≤ q.blocks = subst (λ d. wanted t.contents q.births (flush_cuts t s d) ≤ q.blocks) (sym call) enough.blocks in
+    let blocks : wanted_blocks t.contents q.births of ≤ q.blocks = subst (λ d. wanted_blocks t.contents q.births (flush_cuts t s d) ≤ q.blocks) (sym call) enough.blocks in
     let sum = sum_changed t u s None after has changed in
     let own = of_promise (session_of t s) (Some q) is in
     let uses = use_is u after changed.contents in
@@ -115,20 +115,20 @@ kept_published t s c has inv q is call =
       promises = promises_after t u s None after has locked changed (subst (GoesOn t.contents) (sym changed.contents) (goes_on_after t.contents (reach t) of)) marks.found inv.promises tt;
     }
 
-kept_granted : (t : Table) (s : ℕ) (c : Call) → IsTrue (has_session t s) → IsWithinCapacity t → (session_of t s).promise ≡ None → is_due t s c ≡ true → (h : ℕ) → t.floor ≤ h → fits_at t (flush_cuts t s c) h ≡ true → IsKept t.options (granted t s c (flush_cuts t s c) h)
+kept_granted : (t : Table) (s : ℕ) (c : Call) → IsTrue (has_session t s) → IsWithinCapacity t → (session_of t s).promise ≡ None → is_due t s c ≡ true → (h : ℕ) → t.floor ≤ h → fits_at t (flush_cuts t s c) h ≡ true → IsKept t.options (with_promise t s c (flush_cuts t s c) h)
 kept_granted t s c has inv none due h le fits =
     let p = session_of t s in
     let of = flush_cuts t s c in
-    let v = at_floor t h in
-    let u = granted t s c of h in
+    let v = with_floor t h in
+    let u = with_promise t s c of h in
     let marks = are_true t inv.true_marks in
-    let q : Promise = record { call = c; blocks = wanted_at t of h; births = found_births t.contents (reach v) of } in
+    let q : Promise = record { call = c; blocks = wanted_blocks_at t of h; births = found_births t.contents (reach v) of } in
     let part : Session = record p { promise = Some q } in
     let changed = promise_changed t s h (Some q) le in
     let locked = promise_locked t s h (Some q) (inv.locks s has) in
     let fewer = blocks_among t.contents t v (reach_at_floor (Contains (reach t)) t h le (each_itself (reach t))) in
     let fewest = blocks_among t.contents v u (reach_granted (Contains (reach v)) t s c of h (each_itself (reach v))) in
-    let room : wanted_at t of h ≤ t.options.capacity - use_of v = at_most (wanted_at t of h) (free_of v) fits in
+    let room : wanted_blocks_at t of h ≤ t.options.capacity - use_of v = at_most (wanted_blocks_at t of h) (free_of v) fits in
     let sum = sum_changed t u s (Some q) t.contents has changed in
     let before = of_promise p None none in
     let promised = due_promised t s p (Some q) c in
@@ -164,14 +164,14 @@ kept_cases t s c has inv = record {
   cancelled = λ q is. kept_cancelled t s has inv;
 }
 
-kept_entry : (t : Table) (e : Entry) → IsLegal t e.token.session e.token.kind e.call → IsWithinCapacity t → IsKept t.options (apply t e).0
+kept_entry : (t : Table) (e : Entry) → IsLegal t e.token.session e.token.kind e.call → IsWithinCapacity t → IsKept t.options (effect_of t e).0
 kept_entry t e legal inv = by_entry_cases t e.token.session e.token.kind e.call (IsKept t.options) legal (kept_cases t e.token.session e.call legal.session inv)
 
-pub within_entry : (t : Table) (e : Entry) → IsLegal t e.token.session e.token.kind e.call → IsWithinCapacity t → IsWithinCapacity (apply t e).0
+pub within_entry : (t : Table) (e : Entry) → IsLegal t e.token.session e.token.kind e.call → IsWithinCapacity t → IsWithinCapacity (effect_of t e).0
 within_entry t e legal inv =
     let kept = kept_entry t e legal inv in
     record {
-      within = subst (λ (o : Options). use_of (apply t e).0 ≤ o.capacity) (sym kept.same) kept.within;
+      within = subst (λ (o : Options). use_of (effect_of t e).0 ≤ o.capacity) (sym kept.same) kept.within;
       true_marks = true_after t e legal inv.true_marks;
       locks = kept.locks;
       promises = kept.promises;
@@ -194,9 +194,9 @@ no_blocks : (contents : List Content) (births : List ℕ) → Each (λ b. ⊥) b
 no_blocks contents [] none = refl
 no_blocks contents (b ∷ births) none = absurd none.0
 
-pub within_opening : (options : Options) (sessions : ℕ) → IsWithinCapacity (opening options sessions)
+pub within_opening : (options : Options) (sessions : ℕ) → IsWithinCapacity (opening_table options sessions)
 within_opening options sessions =
-    let t = opening options sessions in
+    let t = opening_table options sessions in
     let nothing : Each (λ b. ⊥) (reach t) = each-reach (λ b. ⊥) t (record {
       held = record { versions = tt; sessions = each-replicate _ sessions new_session (record { working = tt; locators = tt; savepoints = tt }) };
       found = each-replicate _ sessions new_session tt;
@@ -210,11 +210,11 @@ within_opening options sessions =
       promises = λ r has. subst (λ (p : Session). IfSome p.promise (IsEnough t r)) (sym (new_part sessions (r - 1))) tt;
     }
 
-within_after : (t : Table) (history : List Entry) → IsLegalRun t history → IsWithinCapacity t → (use_of (table_after t history) ≤ t.options.capacity) × IsWithinCapacity (table_after t history)
+within_after : (t : Table) (history : List Entry) → IsLegalHistory t history → IsWithinCapacity t → (use_of (table_after t history) ≤ t.options.capacity) × IsWithinCapacity (table_after t history)
 within_after t [] legal inv = (inv.within, inv)
 within_after t (e ∷ es) legal inv =
-    let rest = within_after (apply t e).0 es legal.1 (within_entry t e legal.0 inv) in
-    (subst (λ (o : Options). use_of (table_after (apply t e).0 es) ≤ o.capacity) (kept_entry t e legal.0 inv).same rest.0, rest.1)
+    let rest = within_after (effect_of t e).0 es legal.1 (within_entry t e legal.0 inv) in
+    (subst (λ (o : Options). use_of (table_after (effect_of t e).0 es) ≤ o.capacity) (kept_entry t e legal.0 inv).same rest.0, rest.1)
 
-pub use_in_run : (options : Options) (sessions : ℕ) (history : List Entry) → IsLegalRun (opening options sessions) history → use_of (run_table options sessions history) ≤ options.capacity
-use_in_run options sessions history legal = (within_after (opening options sessions) history legal (within_opening options sessions)).0
+pub use_in_run : (options : Options) (sessions : ℕ) (history : List Entry) → IsLegalHistory (opening_table options sessions) history → use_of (history_table options sessions history) ≤ options.capacity
+use_in_run options sessions history legal = (within_after (opening_table options sessions) history legal (within_opening options sessions)).0

@@ -6,13 +6,14 @@ use Rattle.std.specs.Option.{option_map_or, IfSome}
 use Rattle.std.proofs.lemmas.Slice.Eq.{bytes_eq-Decides}
 use Rattle.std.proofs.lemmas.List.Sums.{sum_by-cons, sum_by_push}
 use Rattle.std.proofs.lemmas.List.Elements.{Contains-push, Contains-append_left}
-use Rattle.sf_types.specs.Births.{IsRising, IsAboveAll}
+use Rattle.sf_types.specs.Inside.Births.{IsRising, IsAboveAll}
 use Rattle.sf_types.proofs.BirthLemmas.{IsRising-push}
-use Rattle.sf_types.specs.Table.{Content}
-use Rattle.sf_types.specs.Cuts.{Cut}
-use Rattle.sf_types.specs.Use.{blocks_of, content_of, blocks_of_birth, blocks_of_births}
-use Rattle.sf_types.specs.Promises.{is_shared_as, found, is_found, found_births, is_equal_sharing, new_cuts, wanted}
-use Rattle.sf_types.specs.Publications.{content_of_cut, contents_with, reached_with, contents_after}
+use Rattle.sf_types.specs.Table.Parts.{Content}
+use Rattle.sf_types.specs.Space.Cuts.{Cut}
+use Rattle.sf_types.specs.Space.Contents.{blocks_of}
+use Rattle.sf_types.specs.Space.Use.{content_of, blocks_of_birth, blocks_of_births}
+use Rattle.sf_types.specs.Space.Promises.{is_shared_as, found_birth, is_found, found_births, is_equal_sharing, new_cuts, wanted_blocks}
+use Rattle.sf_types.specs.Space.Publications.{content_of_cut, contents_with, reached_with, contents_after}
 use Rattle.sf_laws.specs.TrueMarks.{IsGivenOut}
 use Rattle.sf_laws.proofs.Each.{each_weaker, each_of_any, each_contained, each_itself, none_found, each_from_filter_map}
 use Rattle.sf_laws.proofs.GivenBirths.{reached_after, GoesOn, content_kept, given_more, given_with, IsFoundAt, found_at}
@@ -26,9 +27,9 @@ cut_blocks cut = blocks_of (length cut.bytes)
 
 -- the found birth of a cut that is found
 pub found_from : (contents : List Content) (reached : List ℕ) (cut : Cut) → is_found contents reached cut ≡ true → (b : ℕ) × IsFoundAt contents reached cut b
-found_from contents reached cut is = go (found contents reached cut) refl is
+found_from contents reached cut is = go (found_birth contents reached cut) refl is
   where
-    go : (o : Option ℕ) → found contents reached cut ≡ o → is_some o ≡ true → (b : ℕ) × IsFoundAt contents reached cut b
+    go : (o : Option ℕ) → found_birth contents reached cut ≡ o → is_some o ≡ true → (b : ℕ) × IsFoundAt contents reached cut b
     go None at some = absurd cc
     go (Some b) at some = (b, found_at contents reached cut b at)
 
@@ -80,27 +81,27 @@ new_falls c d xs ys earlier [] more = omega arith
 new_falls c d xs ys earlier (cut ∷ rest) more =
     fewer_new (is_found c xs cut) (is_found d ys cut) (list_any (is_equal_sharing cut) earlier) cut (new_cuts d ys (cut ∷ earlier) rest) (new_cuts c xs (cut ∷ earlier) rest) more.0 (new_falls c d xs ys (cut ∷ earlier) rest more.1)
 
-pub wanted_falls : (before after : List Content) (fewer more : List ℕ) (of : List Cut) → GoesOn before after → Each (IsGivenOut before) fewer → Each (Contains more) fewer → wanted after more of ≤ wanted before fewer of
+pub wanted_falls : (before after : List Content) (fewer more : List ℕ) (of : List Cut) → GoesOn before after → Each (IsGivenOut before) fewer → Each (Contains more) fewer → wanted_blocks after more of ≤ wanted_blocks before fewer of
 wanted_falls before after fewer more of on given within =
     new_falls before after fewer more [] of (each_of_any (λ cut. is_found before fewer cut ≡ true → is_found after more cut ≡ true) of (λ cut. found_on before after fewer more cut on given within))
 
 -- the births found alone serve as well
-found_again : (contents : List Content) (reached births : List ℕ) (cut : Cut) → IfSome (found contents reached cut) (Contains births) → is_found contents reached cut ≡ true → is_found contents births cut ≡ true
-found_again contents reached births cut within is = go (found contents reached cut) refl within is
+found_again : (contents : List Content) (reached births : List ℕ) (cut : Cut) → IfSome (found_birth contents reached cut) (Contains births) → is_found contents reached cut ≡ true → is_found contents births cut ≡ true
+found_again contents reached births cut within is = go (found_birth contents reached cut) refl within is
   where
-    go : (o : Option ℕ) → found contents reached cut ≡ o → IfSome o (Contains births) → is_some o ≡ true → is_found contents births cut ≡ true
+    go : (o : Option ℕ) → found_birth contents reached cut ≡ o → IfSome o (Contains births) → is_some o ≡ true → is_found contents births cut ≡ true
     go None at has some = absurd cc
     go (Some b) at has some =
         let f = found_at contents reached cut b at in
         is_found_from contents births cut b (record { sharing = f.sharing; within = has; content = f.content; at = f.at; shared = f.shared; bytes = f.bytes })
 
-pub wanted_of_found : (contents : List Content) (reached : List ℕ) (of : List Cut) → wanted contents (found_births contents reached of) of ≤ wanted contents reached of
+pub wanted_of_found : (contents : List Content) (reached : List ℕ) (of : List Cut) → wanted_blocks contents (found_births contents reached of) of ≤ wanted_blocks contents reached of
 wanted_of_found contents reached of =
     let births = found_births contents reached of in
-    let all : Each (λ cut. IfSome (found contents reached cut) (Contains births)) of =
-    each_from_filter_map (Contains births) (found contents reached) of (each_from_rising (Contains births) (filter_map (found contents reached) of) (each_itself births)) in
+    let all : Each (λ cut. IfSome (found_birth contents reached cut) (Contains births)) of =
+    each_from_filter_map (Contains births) (found_birth contents reached) of (each_from_rising (Contains births) (filter_map (found_birth contents reached) of) (each_itself births)) in
     new_falls contents contents reached births [] of
-    (each_weaker (λ cut. IfSome (found contents reached cut) (Contains births)) (λ cut. is_found contents reached cut ≡ true → is_found contents births cut ≡ true) of (λ cut has. found_again contents reached births cut has) all)
+    (each_weaker (λ cut. IfSome (found_birth contents reached cut) (Contains births)) (λ cut. is_found contents reached cut ≡ true → is_found contents births cut ≡ true) of (λ cut has. found_again contents reached births cut has) all)
 
 -- blocks of births that were given out
 pub blocks_kept : (before after : List Content) (births : List ℕ) → GoesOn before after → Each (IsGivenOut before) births → blocks_of_births after births ≡ blocks_of_births before births
@@ -231,5 +232,5 @@ blocks_after c xs earlier contents reached (cut ∷ rest) given all =
     ] refl
 
 -- a publication gives out no more blocks than its cuts want
-pub published_blocks : (contents : List Content) (reached : List ℕ) (of : List Cut) → Each (IsGivenOut contents) reached → blocks_at_end contents reached of ≤ blocks_of_births contents reached + wanted contents reached of
+pub published_blocks : (contents : List Content) (reached : List ℕ) (of : List Cut) → Each (IsGivenOut contents) reached → blocks_at_end contents reached of ≤ blocks_of_births contents reached + wanted_blocks contents reached of
 published_blocks contents reached of given = blocks_after contents reached [] contents reached of given (record { first = λ cut is. is; again = λ cut is. absurd cc })

@@ -1,8 +1,8 @@
 -- Committed values.
 use Rattle.std.specs.Prelude.{◌≡◌, Bool, true, not}
 use Rattle.std.specs.List.{list_all}
-use Rattle.sf_types.specs.Due.{has_fresh}
-use Rattle.sf_types.specs.Table.{Rows, Table}
+use Rattle.sf_types.specs.Space.Due.{has_fresh}
+use Rattle.sf_types.specs.Table.Parts.{Rows, Table}
 
 -- No value of some rows has a fresh byte.
 abbrev pub are_stored : Rows → Bool

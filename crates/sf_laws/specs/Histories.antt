@@ -6,8 +6,8 @@ use Rattle.sf_types.specs.declared.history.Kind.TheVariants as kind
 use Rattle.sf_types.specs.declared.options.Options.{Options}
 use Rattle.sf_types.specs.declared.reply.Reply.{Reply}
 use Rattle.sf_types.specs.Limits.{standard_options}
-use Rattle.sf_types.specs.Table.{Table, opening}
-use Rattle.sf_types.specs.Orders.{run_table, run_replies, IsLegalRun}
+use Rattle.sf_types.specs.Table.Parts.{Table, opening_table}
+use Rattle.sf_types.specs.Orders.Histories.{history_table, history_replies, IsLegalHistory}
 
 -- A call of a session that ends.
 abbrev pub ends_in : ℕ → Call → Entry
@@ -35,15 +35,15 @@ calls cs = map ends cs
 
 -- The table at the end of a history of session 1, and the replies.
 abbrev pub end_of : Options → List Entry → Table
-end_of options history = run_table options 1 history
+end_of options history = history_table options 1 history
 
 -- The replies to its calls.
 abbrev pub replies_of : Options → List Entry → List Reply
-replies_of options history = run_replies options 1 history 1
+replies_of options history = history_replies options 1 history 1
 
 -- Each of its entries is legal where it stands.
 abbrev pub IsLegalAlone : Options → List Entry → Type 0
-IsLegalAlone options history = IsLegalRun (opening options 1) history
+IsLegalAlone options history = IsLegalHistory (opening_table options 1) history
 
 -- The options of a store of so many blocks.
 abbrev pub store_of : ℕ → Options

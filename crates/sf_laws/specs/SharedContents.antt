@@ -1,8 +1,8 @@
 -- Shared contents are distinct.
 use Rattle.std.specs.Prelude.{◌≡◌, ℕ, true, List, Some, Contains}
-use Rattle.sf_types.specs.Table.{Content, Table}
-use Rattle.sf_types.specs.Reach.{reach}
-use Rattle.sf_types.specs.Use.{content_of}
+use Rattle.sf_types.specs.Table.Parts.{Content, Table}
+use Rattle.sf_types.specs.Space.Reach.{reach}
+use Rattle.sf_types.specs.Space.Use.{content_of}
 use Rattle.sf_laws.specs.TrueMarks.{HasTrueMarks}
 
 -- A birth is shared and has these bytes.

@@ -1,6 +1,6 @@
 -- What an edit leaves as it was.
 use Rattle.std.specs.Prelude.{◌≡◌, ℕ, ◌+◌, List, length, take, drop}
-use Rattle.sf_types.specs.Values.{Marked}
+use Rattle.sf_types.specs.Values.Marks.{Marked}
 
 -- The new list has the old one's first items, then some others, and then the old one's items behind a place.
 pub record IsSplice (old new : List Marked) (front : ℕ) (items : List Marked) (behind : ℕ) : Type 0 where

@@ -6,7 +6,7 @@ use Rattle.sf_types.specs.declared.history.Entry.{Entry}
 use Rattle.sf_types.specs.declared.history.Kind.{Kind}
 use Rattle.sf_types.specs.declared.history.Kind.TheVariants as kind
 use Rattle.sf_types.specs.declared.reply.Reply.TheVariants as reply
-use Rattle.sf_types.specs.Transcripts.{whole_transcript}
+use Rattle.sf_types.specs.Orders.Transcripts.{whole_transcript}
 use Rattle.sha2.specs.Sha256.{sha256}
 use Rattle.sf_types.specs.declared.history.Token.{Token}
 use Rattle.sf_laws.specs.Histories.{calls, flushes}

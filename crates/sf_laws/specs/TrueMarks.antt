@@ -1,10 +1,10 @@
 -- True marks: what is told of a byte by its mark is so.
 use Rattle.std.specs.Prelude.{◌≡◌, ℕ, ◌≤◌, List, [], ◌++◌, length, flat_map, slice_get, Some, All}
 use Rattle.std.specs.Option.{option_map_or}
-use Rattle.sf_types.specs.Values.{Mark, Zero, Fresh, Stored, Marked, Value}
-use Rattle.sf_types.specs.Table.{Content, Session, Table}
-use Rattle.sf_types.specs.Reach.{values_in, session_values}
-use Rattle.sf_types.specs.Use.{content_of}
+use Rattle.sf_types.specs.Values.Marks.{Mark, Zero, Fresh, Stored, Marked, Value}
+use Rattle.sf_types.specs.Table.Parts.{Content, Session, Table}
+use Rattle.sf_types.specs.Space.Reach.{values_in, session_values}
+use Rattle.sf_types.specs.Space.Use.{content_of}
 
 -- Births are given out from 1 on.
 pub record IsGivenOut (contents : List Content) (birth : ℕ) : Type 0 where

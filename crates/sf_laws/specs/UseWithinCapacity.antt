@@ -2,21 +2,21 @@
 use Rattle.std.specs.Prelude.{◌≡◌, ℕ, ◌≤◌, true, IsTrue, List, [], ◌∷◌}
 use Rattle.std.specs.List.{AllByRecursion, list_any}
 use Rattle.std.specs.Option.{IfSome}
-use Rattle.sf_types.specs.NameMaps.{NameMap, is_name_of}
-use Rattle.sf_types.specs.Table.{Promise, Rows, Savepoint, Session, Table}
-use Rattle.sf_types.specs.Sessions.{has_session, session_of, holds}
-use Rattle.sf_types.specs.Due.{is_due}
-use Rattle.sf_types.specs.Use.{use_of}
-use Rattle.sf_types.specs.Promises.{wanted, flush_cuts}
+use Rattle.sf_types.specs.Inside.NameMaps.{NameMap, is_same_name}
+use Rattle.sf_types.specs.Table.Parts.{Promise, Rows, Savepoint, Session, Table}
+use Rattle.sf_types.specs.Table.Sessions.{has_session, session_of, holds_lock}
+use Rattle.sf_types.specs.Space.Due.{is_due}
+use Rattle.sf_types.specs.Space.Use.{use_of}
+use Rattle.sf_types.specs.Space.Promises.{wanted_blocks, flush_cuts}
 use Rattle.sf_laws.specs.TrueMarks.{HasTrueMarks}
 
 -- The session holds the lock of each row that some working values name.
 abbrev pub AreLocked : NameMap ℕ → ℕ → Rows → Type 0
-AreLocked locks s rows = AllByRecursion (λ e. holds locks s e.0 ≡ true) rows
+AreLocked locks s rows = AllByRecursion (λ e. holds_lock locks s e.0 ≡ true) rows
 
 -- Each row that some working values name is one of these.
 abbrev pub AreAmong : List (List ℕ) → Rows → Type 0
-AreAmong named rows = AllByRecursion (λ e. list_any (is_name_of e.0) named ≡ true) rows
+AreAmong named rows = AllByRecursion (λ e. list_any (is_same_name e.0) named ≡ true) rows
 
 -- A savepoint's locked rows have all rows of its own working values and of those of the savepoints before it.
 abbrev pub NameEarlier : List Savepoint → Type 0
@@ -33,7 +33,7 @@ pub record HasLocked (locks : NameMap ℕ) (s : ℕ) (p : Session) : Type 0 wher
 -- most its blocks.
 pub record IsEnough (t : Table) (s : ℕ) (q : Promise) : Type 0 where
   pub due : is_due t s q.call ≡ true
-  pub blocks : wanted t.contents q.births (flush_cuts t s q.call) ≤ q.blocks
+  pub blocks : wanted_blocks t.contents q.births (flush_cuts t s q.call) ≤ q.blocks
 
 -- The use is at most the capacity, and what stands in the table keeps it so.
 pub record IsWithinCapacity (t : Table) : Type 0 where

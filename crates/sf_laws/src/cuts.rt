@@ -1,9 +1,10 @@
 //! What cuts and settling are.
 ghost use Rattle.std.specs.Prelude.{◌≡◌, ℕ, ◌≤◌, List, length, map, filter, All, sum_by, flat_map};
 ghost use Rattle.std.specs.List.{concat};
-ghost use Rattle.sf_types.specs.Values.{Marked, Value, is_fresh, fresh_count, strip, size_of};
-ghost use Rattle.sf_types.specs.Cuts.{segments_of, contents_of_run, contents_of_value, settle_value};
-ghost use Rattle.sf_types.specs.Use.{blocks_of};
+ghost use Rattle.sf_types.specs.Values.Marks.{Marked, Value, is_fresh, fresh_count, strip, size_of};
+ghost use Rattle.sf_types.specs.Space.Cuts.{segments_of, contents_of_value, settle_value};
+ghost use Rattle.sf_types.specs.Space.Contents.{contents_of_stretch};
+ghost use Rattle.sf_types.specs.Space.Contents.{blocks_of};
 ghost use Rattle.sf_laws.specs.Segments.{marked_in, AreMaximal};
 
 /// The runs of fresh bytes are as long as they can be, and the segments joined are the value.
@@ -20,7 +21,7 @@ pub fn cuts_are_the_fresh_bytes()
 
 /// The contents of a run of n bytes take as many blocks as one content of n bytes would.
 pub fn a_run_takes_its_blocks()
-    ensures law { (run : List ℕ) → sum_by (λ bytes. blocks_of (length bytes)) (contents_of_run run) ≡ blocks_of (length run) }
+    ensures law { (run : List ℕ) → sum_by (λ bytes. blocks_of (length bytes)) (contents_of_stretch run) ≡ blocks_of (length run) }
 {}
 
 /// Settling keeps the bytes. With a birth for each content no fresh byte is left.

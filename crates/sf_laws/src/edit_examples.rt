@@ -3,7 +3,7 @@ ghost use Rattle.std.specs.Prelude.{◌≡◌, [], ◌∷◌, ◌++◌, codes};
 ghost use Rattle.sf_types.specs.declared.reply.Reply.TheVariants as reply;
 ghost use Rattle.sf_types.specs.declared.reply.Fault.TheVariants as fault;
 ghost use Rattle.sf_types.specs.Limits.{standard_options};
-ghost use Rattle.sf_types.specs.Edits.{move};
+ghost use Rattle.sf_types.specs.Values.Edits.{move};
 ghost use Rattle.sf_laws.specs.Histories.{IsLegalAlone, replies_of};
 ghost use Rattle.sf_laws.specs.EditExamples.{move_history, padding_history, erasing_history};
 

@@ -1,15 +1,15 @@
 //! What edits leave as it was.
 ghost use Rattle.std.specs.Prelude.{◌≡◌, ℕ, ◌+◌, ◌-◌, ◌<◌, ◌≤◌, min, max, List, [], length, take, drop, replicate, IsPermutation, Bool, Option};
 ghost use Rattle.sf_types.specs.declared.call.Call.TheVariants as call;
-ghost use Rattle.sf_types.specs.Table.{Session};
-ghost use Rattle.sf_types.specs.Values.{Marked, Value};
-ghost use Rattle.sf_types.specs.WritingCalls.{old_value, result_of};
-ghost use Rattle.sf_types.specs.Edits.{part, padded, put, insert, delete, replace, move, erase, erased, trim};
+ghost use Rattle.sf_types.specs.Table.Parts.{Session};
+ghost use Rattle.sf_types.specs.Values.Marks.{Marked, Value};
+ghost use Rattle.sf_types.specs.Calls.WritingCalls.{old_value, result_of};
+ghost use Rattle.sf_types.specs.Values.Edits.{part, with_padding, put, insert, delete, replace, move, erase, erased_count, trim};
 ghost use Rattle.sf_laws.specs.Splices.{IsSplice, IsSameOutside};
 
 /// Bytes that are put over others leave all bytes outside their range. Where the value is shorter, zeros stand between.
 pub fn put_leaves_the_rest()
-    ensures before { (zero : Marked) (v items : List Marked) (offset : ℕ) → IsSplice (padded zero v (offset - 1)) (put zero v offset items) (offset - 1) items (offset - 1 + length items) }
+    ensures before { (zero : Marked) (v items : List Marked) (offset : ℕ) → IsSplice (with_padding zero v (offset - 1)) (put zero v offset items) (offset - 1) items (offset - 1 + length items) }
     ensures after { (zero : Marked) (v items : List Marked) (offset : ℕ) → drop (offset - 1 + length items) (put zero v offset items) ≡ drop (offset - 1 + length items) v }
 {}
 
@@ -30,7 +30,7 @@ pub fn replace_leaves_the_rest()
 
 /// What is erased becomes zeros, as many as there were bytes, and the rest stays. Past the end nothing is erased.
 pub fn erase_leaves_the_rest()
-    ensures law { (zero : Marked) (v : List Marked) (amount offset : ℕ) → offset - 1 ≤ length v → IsSplice v (erase zero v amount offset) (offset - 1) (replicate (erased v amount offset) zero) (offset - 1 + amount) }
+    ensures law { (zero : Marked) (v : List Marked) (amount offset : ℕ) → offset - 1 ≤ length v → IsSplice v (erase zero v amount offset) (offset - 1) (replicate (erased_count v amount offset) zero) (offset - 1 + amount) }
     ensures past { (zero : Marked) (v : List Marked) (amount offset : ℕ) → length v ≤ offset - 1 → erase zero v amount offset ≡ v }
     ensures size { (zero : Marked) (v : List Marked) (amount offset : ℕ) → length (erase zero v amount offset) ≡ length v }
 {}

@@ -3,8 +3,8 @@ ghost use Rattle.std.specs.Prelude.{◌≡◌, [], ◌∷◌, codes};
 ghost use Rattle.sf_types.specs.declared.reply.Reply.TheVariants as reply;
 ghost use Rattle.sf_types.specs.declared.reply.Fault.TheVariants as fault;
 ghost use Rattle.sf_types.specs.Limits.{standard_options};
-ghost use Rattle.sf_types.specs.Reach.{reach};
-ghost use Rattle.sf_types.specs.Use.{free_of};
+ghost use Rattle.sf_types.specs.Space.Reach.{reach};
+ghost use Rattle.sf_types.specs.Space.Use.{free_of};
 ghost use Rattle.sf_laws.specs.Histories.{IsLegalAlone, replies_of, end_of};
 ghost use Rattle.sf_laws.specs.LocatorExamples.{across_transactions, assigned_history, rolled_back_history, copies_history, savepoint_history};
 

@@ -2,12 +2,12 @@
 ghost use Rattle.std.specs.Prelude.{◌≡◌, [], ◌∷◌, codes, map};
 ghost use Rattle.sf_types.specs.declared.reply.Reply.TheVariants as reply;
 ghost use Rattle.sf_types.specs.declared.reply.Fault.TheVariants as fault;
-ghost use Rattle.sf_types.specs.Orders.{IsLegalRun, run_table, run_replies};
-ghost use Rattle.sf_types.specs.Table.{opening};
-ghost use Rattle.sf_types.specs.Reach.{reach};
-ghost use Rattle.sf_types.specs.Use.{free_of};
-ghost use Rattle.sf_types.specs.Versions.{now, present_rows};
-ghost use Rattle.sf_types.specs.Values.{strip, births_in};
+ghost use Rattle.sf_types.specs.Orders.Histories.{IsLegalHistory, history_table, history_replies};
+ghost use Rattle.sf_types.specs.Table.Parts.{opening_table};
+ghost use Rattle.sf_types.specs.Space.Reach.{reach};
+ghost use Rattle.sf_types.specs.Space.Use.{free_of};
+ghost use Rattle.sf_types.specs.Table.Versions.{commit_count, present_rows};
+ghost use Rattle.sf_types.specs.Values.Marks.{strip, births_in};
 ghost use Rattle.sf_laws.specs.Histories.{IsLegalAlone, replies_of, end_of, store_of};
 ghost use Rattle.sf_laws.specs.SpaceExamples.{one_block, one_block_history, two_blocks_kept, retention_history, two_blocks_max, max_history, apart_history, one_block_apart, shared_history, two_writers, both_promised, one_promised};
 
@@ -33,7 +33,7 @@ pub fn retention_and_space()
     ensures reached { reach (end_of two_blocks_kept retention_history) ≡ 2 ∷ 3 ∷ [] }
     ensures free { free_of (end_of two_blocks_kept retention_history) ≡ 0 }
     ensures rows { map (λ e. e.0) (present_rows (end_of two_blocks_kept retention_history)) ≡ codes "a" ∷ codes "b" ∷ [] }
-    ensures commits { now (end_of two_blocks_kept retention_history) ≡ 4 }
+    ensures commits { commit_count (end_of two_blocks_kept retention_history) ≡ 4 }
 {}
 
 /// With the option max a promise gives up as many old versions as let it fit, the oldest first, and no more.
@@ -72,19 +72,19 @@ pub fn objects_that_share()
 
 /// Two equal contents that are promised beside each other become one at the second publication.
 pub fn equal_contents_of_two_sessions()
-    ensures legal { IsLegalRun (opening (store_of 2) 2) both_promised }
-    ensures first { run_replies (store_of 2) 2 both_promised 1 ≡ reply.Done ∷ reply.Done ∷ reply.Done ∷ reply.Committed 1 ∷ reply.Ended ∷ [] }
-    ensures second { run_replies (store_of 2) 2 both_promised 2 ≡ reply.Done ∷ reply.Done ∷ reply.Done ∷ reply.Committed 2 ∷ reply.Ended ∷ [] }
-    ensures promised { free_of (run_table (store_of 2) 2 two_writers) ≡ 0 }
-    ensures reached { reach (run_table (store_of 2) 2 both_promised) ≡ 1 ∷ [] }
-    ensures free { free_of (run_table (store_of 2) 2 both_promised) ≡ 1 }
+    ensures legal { IsLegalHistory (opening_table (store_of 2) 2) both_promised }
+    ensures first { history_replies (store_of 2) 2 both_promised 1 ≡ reply.Done ∷ reply.Done ∷ reply.Done ∷ reply.Committed 1 ∷ reply.Ended ∷ [] }
+    ensures second { history_replies (store_of 2) 2 both_promised 2 ≡ reply.Done ∷ reply.Done ∷ reply.Done ∷ reply.Committed 2 ∷ reply.Ended ∷ [] }
+    ensures promised { free_of (history_table (store_of 2) 2 two_writers) ≡ 0 }
+    ensures reached { reach (history_table (store_of 2) 2 both_promised) ≡ 1 ∷ [] }
+    ensures free { free_of (history_table (store_of 2) 2 both_promised) ≡ 1 }
 {}
 
 /// A standing promise takes its blocks, though its content isn't given out yet and can't be found.
 pub fn equal_contents_in_one_block()
-    ensures legal { IsLegalRun (opening (store_of 1) 2) one_promised }
-    ensures first { run_replies (store_of 1) 2 one_promised 1 ≡ reply.Done ∷ reply.Done ∷ reply.Done ∷ reply.Committed 1 ∷ reply.Ended ∷ [] }
-    ensures second { run_replies (store_of 1) 2 one_promised 2 ≡ reply.Done ∷ reply.Done ∷ reply.Done ∷ reply.Refused (fault.NoSpace 1 0) ∷ reply.Ended ∷ [] }
-    ensures rows { map (λ e. e.0) (present_rows (run_table (store_of 1) 2 one_promised)) ≡ codes "a" ∷ [] }
-    ensures free { free_of (run_table (store_of 1) 2 one_promised) ≡ 0 }
+    ensures legal { IsLegalHistory (opening_table (store_of 1) 2) one_promised }
+    ensures first { history_replies (store_of 1) 2 one_promised 1 ≡ reply.Done ∷ reply.Done ∷ reply.Done ∷ reply.Committed 1 ∷ reply.Ended ∷ [] }
+    ensures second { history_replies (store_of 1) 2 one_promised 2 ≡ reply.Done ∷ reply.Done ∷ reply.Done ∷ reply.Refused (fault.NoSpace 1 0) ∷ reply.Ended ∷ [] }
+    ensures rows { map (λ e. e.0) (present_rows (history_table (store_of 1) 2 one_promised)) ≡ codes "a" ∷ [] }
+    ensures free { free_of (history_table (store_of 1) 2 one_promised) ≡ 0 }
 {}

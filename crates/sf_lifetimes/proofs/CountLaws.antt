@@ -8,8 +8,8 @@ use Rattle.std.specs.Prelude.{AllPairs}
 use Rattle.std.proofs.lemmas.Map.Made.{IsDistinct-from_AllPairs}
 use Rattle.std.specs.FinMap as fin
 use Rattle.std.specs.FinMap.{nat_cmp-IsAntisymmetric, get-insert, get-remove, get-empty, empty}
-use Rattle.sf_types.specs.declared.place.Run.{Run}
-use Rattle.sf_types.specs.Placings.{blocks_in}
+use Rattle.sf_types.specs.declared.run.Run.{Run}
+use Rattle.sf_types.specs.Space.BlockRuns.{blocks_in}
 use Rattle.sf_lifetimes.specs.declared.place_map.Counted.{Counted}
 use Rattle.sf_lifetimes.specs.Counts.{CountedMap, IsCounted, IsFree, unheld_place, IsChangedAt, AreChanged, released, live_in, times, has_birth, holders_in, runs_in, last_held, runs_of}
 use Rattle.std.proofs.Common.{eqb, flat_map, length-append}
@@ -20,7 +20,7 @@ use Rattle.std.proofs.lemmas.List.Folds.{list_any_more, list_any_at}
 use Rattle.std.proofs.lemmas.List.Elements.{filter_more}
 use Rattle.std.proofs.lemmas.List.Filters.{length-filter_more}
 use Rattle.std.proofs.lemmas.List.Sums.{sum_by-cons, sum_by-append, sum_by-le-sum_by, sum_by-take-le, length-filter, count_by-le-length}
-use Rattle.sf_types.specs.Births.{IsBelowAll, IsRising}
+use Rattle.sf_types.specs.Inside.Births.{IsBelowAll, IsRising}
 use Rattle.std.proofs.lemmas.Map.Steps.{length-le_from_distinct_below}
 use Rattle.std.proofs.lemmas.Bool.Decides.{nat_tests}
 use Rattle.sf_lifetimes.proofs.Sums.{weight, sum-insert, sum-remove, no_values}

@@ -5,7 +5,7 @@ use Rattle.std.specs.List.{filter}
 use Rattle.std.specs.Cmp.{nat_cmp_total}
 use Rattle.std.specs.FinMap as fin
 use Rattle.std.specs.FinMap.{nat_cmp-IsAntisymmetric, same_map}
-use Rattle.sf_types.specs.declared.place.Run.{Run}
+use Rattle.sf_types.specs.declared.run.Run.{Run}
 use Rattle.sf_lifetimes.specs.declared.place_map.Counted.{Counted}
 use Rattle.sf_lifetimes.specs.Counts.{CountedMap, AreChanged, AreExchanged, AreFew, AreHeld, raised, lowered, released, has_birth, holders_in, runs_in, last_held, left_over, runs_of}
 use Rattle.std.proofs.lemmas.Bool.Decides.{nat_tests}

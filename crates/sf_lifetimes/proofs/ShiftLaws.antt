@@ -8,8 +8,8 @@ use Rattle.std.specs.Cmp.{nat_cmp_total, unsigned_ties}
 use Rattle.std.specs.FinMap as fin
 use Rattle.std.specs.FinMap.{nat_cmp-IsAntisymmetric, entries, entries_sorted, get-entries, get-insert}
 use Rattle.std.specs.FinMap.Entries.{find, is_sorted, same_entries}
-use Rattle.sf_types.specs.declared.place.Run.{Run}
-use Rattle.sf_types.specs.Placings.{blocks_in}
+use Rattle.sf_types.specs.declared.run.Run.{Run}
+use Rattle.sf_types.specs.Space.BlockRuns.{blocks_in}
 use Rattle.sf_shrink.specs.declared.shifts.Shift.{Shift}
 use Rattle.sf_shrink.specs.Plans.{shifted_blocks}
 use Rattle.sf_lifetimes.specs.declared.place_map.Counted.{Counted}

@@ -3,8 +3,8 @@ use Rattle.std.specs.Prelude.{◌≡◌, ℕ, ◌+◌, ◌-◌, ◌≤◌, ◌<�
 use Rattle.std.specs.List.{list_any, sum_by, count_by, filter}
 use Rattle.std.specs.Ordering.{nat_cmp}
 use Rattle.std.specs.FinMap as fin
-use Rattle.sf_types.specs.declared.place.Run.{Run}
-use Rattle.sf_types.specs.Placings.{blocks_in}
+use Rattle.sf_types.specs.declared.run.Run.{Run}
+use Rattle.sf_types.specs.Space.BlockRuns.{blocks_in}
 use Rattle.sf_lifetimes.specs.declared.place_map.Counted.{Counted}
 
 -- What a ledger keeps of each birth.

@@ -4,8 +4,8 @@ use Rattle.std.specs.List.{sum_by, count_by, filter}
 use Rattle.std.specs.Option.{unwrap_or}
 use Rattle.std.specs.Ordering.{nat_cmp}
 use Rattle.std.specs.FinMap as fin
-use Rattle.sf_types.specs.declared.place.Run.{Run}
-use Rattle.sf_types.specs.Placings.{blocks_in}
+use Rattle.sf_types.specs.declared.run.Run.{Run}
+use Rattle.sf_types.specs.Space.BlockRuns.{blocks_in}
 use Rattle.sf_types.specs.Rooms.{Roomy}
 use Rattle.sf_lifetimes.specs.declared.holder.Holder.{Holder}
 use Rattle.sf_lifetimes.specs.Holders.{holder_cmp}

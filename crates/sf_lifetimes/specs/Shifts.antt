@@ -1,8 +1,8 @@
 -- Contents that move to other blocks.
 use Rattle.std.specs.Prelude.{◌≡◌, ◌≢◌, ℕ, ◌<◌, ◌^◌, ◌==◌, cond, List, [], ◌∷◌, map, length, All, AllPairs, Option, Some, None}
 use Rattle.std.specs.FinMap as fin
-use Rattle.sf_types.specs.declared.place.Run.{Run}
-use Rattle.sf_types.specs.Placings.{blocks_in}
+use Rattle.sf_types.specs.declared.run.Run.{Run}
+use Rattle.sf_types.specs.Space.BlockRuns.{blocks_in}
 use Rattle.sf_shrink.specs.declared.shifts.Shift.{Shift}
 use Rattle.sf_shrink.specs.Plans.{shifted_blocks}
 use Rattle.sf_lifetimes.specs.declared.place_map.Counted.{Counted}

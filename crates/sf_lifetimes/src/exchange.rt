@@ -1,7 +1,7 @@
 //! What a holder gets in place of what it held.
 ghost use Rattle.std.specs.Prelude.{◌≡◌, ◌+◌, ◌≤◌, ◌++◌, length, All, IsSome, IsOk, OnOk, OnErr};
 ghost use Rattle.std.specs.FinMap as fin;
-ghost use Rattle.sf_types.specs.Births.{IsRising};
+ghost use Rattle.sf_types.specs.Inside.Births.{IsRising};
 ghost use Rattle.sf_lifetimes.specs.Counts.{AreFew, AreHeld, AreChanged, AreExchanged, raised, last_held, left_over, runs_of};
 ghost use Rattle.sf_lifetimes.specs.Counted.{places_in, IsCountedBy};
 ghost use Rattle.sf_lifetimes.specs.Ledgers.{LedgerView, with_births, unheld, with_held, handed_out};

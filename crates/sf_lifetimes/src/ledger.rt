@@ -41,7 +41,7 @@ impl Model for Ledger {
     ghost use Rattle.std.specs.Coded.{coded_ℕ, coded_list};
     ghost use Rattle.std.specs.FinMap as fin;
     ghost use Rattle.sf_types.specs.Rooms.{Roomy};
-    ghost use Rattle.sf_types.specs.contracts.place.Run as run;
+    ghost use Rattle.sf_types.specs.contracts.run.Run as run;
     ghost use Rattle.sf_lifetimes.specs.contracts.holder.Holder as holder;
     ghost use Rattle.sf_lifetimes.specs.Codes.{roomy_code, ledger_code};
     ghost use Rattle.sf_lifetimes.specs.Ledgers.{LedgerView};

@@ -1,7 +1,7 @@
 //! The blocks that holders free together, counted off birth by birth.
 ghost use Rattle.std.specs.Prelude.{◌≡◌, ◌≢◌, ◌+◌, ◌-◌, ◌≤◌, ◌<◌, ◌^◌, ◌==◌, cond, true, Some, ℕ, AllPairs, IfOk, OnOk};
 ghost use Rattle.std.specs.FinMap as fin;
-ghost use Rattle.sf_types.specs.Births.{IsRising};
+ghost use Rattle.sf_types.specs.Inside.Births.{IsRising};
 ghost use Rattle.sf_lifetimes.specs.Counts.{AreHeld, has_birth, holders_in};
 ghost use Rattle.sf_lifetimes.specs.Counted.{places_in, IsCountedBy};
 ghost use Rattle.sf_lifetimes.specs.Ledgers.{LedgerView, freed_by};

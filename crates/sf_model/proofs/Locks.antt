@@ -1,8 +1,8 @@
 -- Locks that are taken and given back.
 use Rattle.std.proofs.Common.{◌≡◌, ℕ, Bool, true, false, not, cond, eqb, List, Option, Some, None, refl}
 use Rattle.std.specs.Option.{option_map_or}
-use Rattle.sf_types.specs.NameMaps.{NameMap, get, without}
-use Rattle.sf_types.specs.Sessions.{holds, is_busy, with_lock}
+use Rattle.sf_types.specs.Inside.NameMaps.{NameMap, get, without_entry}
+use Rattle.sf_types.specs.Table.Sessions.{holds_lock, is_busy, with_lock}
 use Rattle.sf_types.proofs.NameMapLemmas.{without-put}
 
 nobody : (o : Option ℕ) (s : ℕ) → option_map_or (λ holder. not (eqb holder s)) o false ≡ false → option_map_or (λ holder. eqb holder s) o false ≡ false → o ≡ None
@@ -14,17 +14,17 @@ nobody (Some h) s busy held = absurd (both (eqb h s) busy held)
     both false busy held = cc
 
 -- a lock that was new is given back
-pub without-with_lock : (locks : NameMap ℕ) (s : ℕ) (row : List ℕ) → is_busy locks s row ≡ false → holds locks s row ≡ false → without (with_lock locks s row) row ≡ locks
+pub without-with_lock : (locks : NameMap ℕ) (s : ℕ) (row : List ℕ) → is_busy locks s row ≡ false → holds_lock locks s row ≡ false → without_entry (with_lock locks s row) row ≡ locks
 without-with_lock locks s row busy held = rw held (without-put locks row s (nobody (get locks row) s busy held))
 
 -- one that was held already is kept
-pub with_lock-held : (locks : NameMap ℕ) (s : ℕ) (row : List ℕ) → holds locks s row ≡ true → with_lock locks s row ≡ locks
+pub with_lock-held : (locks : NameMap ℕ) (s : ℕ) (row : List ℕ) → holds_lock locks s row ≡ true → with_lock locks s row ≡ locks
 with_lock-held locks s row held = rw held refl
 
 -- either way the locks are as before
-pub undone : (locks : NameMap ℕ) (s : ℕ) (row : List ℕ) (is_new : Bool) → is_busy locks s row ≡ false → is_new ≡ not (holds locks s row) → cond is_new (without (with_lock locks s row) row) (with_lock locks s row) ≡ locks
-undone locks s row is_new busy is = by_held (holds locks s row) refl
+pub undone : (locks : NameMap ℕ) (s : ℕ) (row : List ℕ) (is_new : Bool) → is_busy locks s row ≡ false → is_new ≡ not (holds_lock locks s row) → cond is_new (without_entry (with_lock locks s row) row) (with_lock locks s row) ≡ locks
+undone locks s row is_new busy is = by_held (holds_lock locks s row) refl
   where
-    by_held : (b : Bool) → holds locks s row ≡ b → cond is_new (without (with_lock locks s row) row) (with_lock locks s row) ≡ locks
+    by_held : (b : Bool) → holds_lock locks s row ≡ b → cond is_new (without_entry (with_lock locks s row) row) (with_lock locks s row) ≡ locks
     by_held true held = rw (is, held) refl
     by_held false held = rw (is, held) (without-put locks row s (nobody (get locks row) s busy held))

@@ -1,6 +1,6 @@
-pub use Rattle.sf_types.specs.Step
-pub use Rattle.sf_types.specs.Table
-pub use Rattle.sf_types.specs.Values
+pub use Rattle.sf_types.specs.Calls.Steps
+pub use Rattle.sf_types.specs.Table.Parts
+pub use Rattle.sf_types.specs.Values.Marks
 pub mod Index
 pub mod Sayings
 pub mod Writable

@@ -1,12 +1,12 @@
 -- How what is said of rows may change.
 use Rattle.std.specs.Prelude.{◌≡◌, ℕ, IsTrue, List}
-use Rattle.sf_types.specs.NameMaps.{get, has}
-use Rattle.sf_types.specs.Table.{Rows}
-use Rattle.sf_types.specs.Versions.{or_absent}
+use Rattle.sf_types.specs.Inside.NameMaps.{get, has}
+use Rattle.sf_types.specs.Table.Parts.{Rows}
+use Rattle.sf_types.specs.Table.Versions.{value_or_absent}
 
 -- Each row has the value that it had, or is absent as it was.
 pub record SaysTheSame (old new : Rows) : Type 0 where
-  pub same : (q : List ℕ) → or_absent (get new q) ≡ or_absent (get old q)
+  pub same : (q : List ℕ) → value_or_absent (get new q) ≡ value_or_absent (get old q)
 
 -- Each row that was named still is.
 pub record KeepsNames (old new : Rows) : Type 0 where

@@ -19,7 +19,7 @@ pub struct Locator {
 }
 
 impl Model for Locator {
-    ghost use Rattle.sf_types.specs.Table.{Locator as LocatorPart};
+    ghost use Rattle.sf_types.specs.Table.Parts.{Locator as LocatorPart};
 
     ghost Value = { LocatorPart };
 

@@ -2,20 +2,20 @@
 ghost use Rattle.std.specs.Prelude.{◌≡◌, ◌+◌, ◌-◌, ◌<◌, ◌≤◌, ◌^◌, length, IsTrue, Some, true, false, is_some, IfOk, OnOk, OnErr, not, ◌↔◌, max, if◌then◌else◌};
 ghost use Rattle.std.specs.Option.{option_copied, option_map};
 ghost use Rattle.sf_types.specs.Limits.{IsInRange};
-ghost use Rattle.sf_types.specs.Table.{opening};
-ghost use Rattle.sf_types.specs.Versions.{now, current};
-ghost use Rattle.sf_types.specs.Rows.{ends_of};
-ghost use Rattle.sf_types.specs.Sessions.{has_session, session_of, row_value, holds, is_busy, with_lock, released};
-ghost use Rattle.sf_types.specs.NameMaps.{without};
-ghost use Rattle.sf_types.specs.RowCalls.{inserted, locked, insert, lock};
-ghost use Rattle.sf_types.specs.LocatorCalls.{named, length_call, read_call};
-ghost use Rattle.sf_types.specs.Ends.{floor_after, commit, end};
+ghost use Rattle.sf_types.specs.Table.Parts.{opening_table};
+ghost use Rattle.sf_types.specs.Table.Versions.{commit_count, current_value};
+ghost use Rattle.sf_types.specs.Orders.RowEnds.{row_ends_of};
+ghost use Rattle.sf_types.specs.Table.Sessions.{has_session, session_of, row_value, holds_lock, is_busy, with_lock, without_locks};
+ghost use Rattle.sf_types.specs.Inside.NameMaps.{without_entry};
+ghost use Rattle.sf_types.specs.Calls.RowCalls.{after_insert, after_lock, insert_call, lock_call};
+ghost use Rattle.sf_types.specs.Calls.LocatorCalls.{locator_named, length_call, read_call};
+ghost use Rattle.sf_types.specs.Calls.TransactionEnds.{floor_after, commit_call, end_call};
 ghost use Rattle.sf_types.specs.declared.call.Call.TheVariants as calls;
 ghost use Rattle.sf_types.specs.declared.reply.Fault.{Fault as Refusal};
 ghost use Rattle.sf_types.specs.declared.reply.Reply.TheVariants as replies;
-ghost use Rattle.sf_types.specs.Step.{put_into, write_step, has_step, step};
-ghost use Rattle.sf_types.specs.Due.{never_due};
-ghost use Rattle.sf_types.specs.Orders.{IsLegalWhere, applied};
+ghost use Rattle.sf_types.specs.Calls.Steps.{part_step, write_step, has_step, step};
+ghost use Rattle.sf_types.specs.Space.Due.{never_due};
+ghost use Rattle.sf_types.specs.Orders.Histories.{IsLegalWhere, entry_effect};
 
 use crate::rows::{Rows, changes_of, make_places, rows_present, said_value, say_all};
 use crate::session::Session;
@@ -42,7 +42,7 @@ pub struct Plain {
 
 impl Model for Plain {
     ghost use Rattle.std.specs.Prelude.{[]};
-    ghost use Rattle.sf_types.specs.Table.{Table};
+    ghost use Rattle.sf_types.specs.Table.Parts.{Table};
 
     ghost Value = { Table };
 
@@ -62,7 +62,7 @@ impl Model for Plain {
 
 // Whether a session holds a row's lock.
 fn holds(locks: &NameMap<Name, u16>, session: u16, row: &Name) -> bool
-    ensures { result ≡ holds locks.now session row.now }
+    ensures { result ≡ holds_lock locks.now session row.now }
 {
     match locks.get(row) {
         Some(holder) => *holder == session,
@@ -83,7 +83,7 @@ fn is_busy(locks: &NameMap<Name, u16>, session: u16, row: &Name) -> bool
 // Takes a lock that no other session holds, and answers whether it is new.
 fn take_lock(locks: &mut NameMap<Name, u16>, session: u16, row: Name) -> Mem<bool>
     ensures locks { OnOk result (locks.new ≡ with_lock locks.old session row) }
-    ensures is_new { IfOk result (λ is_new. is_new ≡ not (holds locks.old session row)) }
+    ensures is_new { IfOk result (λ is_new. is_new ≡ not (holds_lock locks.old session row)) }
     ensures err { OnErr result (locks.new ≡ locks.old) }
 {
     if holds(locks, session, &row) {
@@ -95,7 +95,7 @@ fn take_lock(locks: &mut NameMap<Name, u16>, session: u16, row: Name) -> Mem<boo
 
 // Gives back a lock that was taken, where it was new.
 fn untake_lock(locks: &mut NameMap<Name, u16>, row: &Name, is_new: bool)
-    ensures { locks.new ≡ (if is_new then without locks.old row.now else locks.old) }
+    ensures { locks.new ≡ (if is_new then without_entry locks.old row.now else locks.old) }
 {
     if is_new {
         locks.remove(row);
@@ -111,7 +111,7 @@ fn insert_into(
 ) -> Mem<()>
     requires { is_busy locks.old session row.now ≡ false }
     ensures locks { OnOk result (locks.new ≡ with_lock locks.old session row.now) }
-    ensures part { OnOk result (part.new ≡ inserted part.old row.now) }
+    ensures part { OnOk result (part.new ≡ after_insert part.old row.now) }
     ensures err_locks { OnErr result (locks.new ≡ locks.old) }
     ensures err_part { OnErr result (part.new ≡ part.old) }
 {
@@ -137,7 +137,7 @@ fn lock_into(
 ) -> Mem<()>
     requires { is_busy locks.old session row.now ≡ false }
     ensures locks { OnOk result (locks.new ≡ with_lock locks.old session row.now) }
-    ensures part { OnOk result (part.new ≡ locked part.old to.now row.now value) }
+    ensures part { OnOk result (part.new ≡ after_lock part.old to.now row.now value) }
     ensures err_locks { OnErr result (locks.new ≡ locks.old) }
     ensures err_part { OnErr result (part.new ≡ part.old) }
 {
@@ -155,7 +155,7 @@ fn lock_into(
 
 // Takes the locks of a session away.
 fn release_all(locks: &mut NameMap<Name, u16>, session: u16)
-    ensures { locks.new ≡ released locks.old session }
+    ensures { locks.new ≡ without_locks locks.old session }
 {
     locks.retain(|_, holder| *holder != session);
 }
@@ -177,7 +177,7 @@ impl Plain {
         requires options { IsInRange options }
         requires some { 1 ≤ sessions }
         requires few { sessions ≤ 16 }
-        ensures { IfOk result (λ plain. plain ≡ opening options sessions) }
+        ensures { IfOk result (λ plain. plain ≡ opening_table options sessions) }
     {
         let mut parts = Vec::new(alloc);
         for _ in 0..sessions {
@@ -196,14 +196,14 @@ impl Plain {
 
     /// The number of commits.
     pub fn now(&self) -> u64
-        ensures { result ≡ now self.now }
+        ensures { result ≡ commit_count self.now }
     {
         self.commits.len() as u64
     }
 
     /// What is told of each row that is present, in byte order of names.
     pub fn rows(&self) -> Mem<RowList>
-        ensures { IfOk result (λ rows. rows ≡ ends_of self.now) }
+        ensures { IfOk result (λ rows. rows ≡ row_ends_of self.now) }
     {
         let rows = rows_present(self.alloc, &self.current)?;
         Ok(rows)
@@ -211,7 +211,7 @@ impl Plain {
 
     // What a row holds.
     fn current_value(&self, row: &Name) -> Option<&Value>
-        ensures { option_copied result ≡ current self.now row.now }
+        ensures { option_copied result ≡ current_value self.now row.now }
     {
         said_value(&self.current, row)
     }
@@ -219,7 +219,7 @@ impl Plain {
     // The row's value for a session.
     fn row_value(&self, session: u16, row: &Name) -> Option<&Value>
         requires { IsTrue (has_session self.now session) }
-        ensures { option_copied result ≡ row_value (session_of self.now session) (current self.now row.now) row.now }
+        ensures { option_copied result ≡ row_value (session_of self.now session) (current_value self.now row.now) row.now }
     {
         let part = &self.sessions[session as usize - 1];
         part.row_value(self.current_value(row), row)
@@ -228,14 +228,14 @@ impl Plain {
     // Whether the row is present for a session.
     fn is_present(&self, session: u16, row: &Name) -> bool
         requires { IsTrue (has_session self.now session) }
-        ensures { result ≡ is_some (row_value (session_of self.now session) (current self.now row.now) row.now) }
+        ensures { result ≡ is_some (row_value (session_of self.now session) (current_value self.now row.now) row.now) }
     {
         self.row_value(session, row).is_some()
     }
 
     fn insert(&mut self, session: u16, row: &Name) -> Mem<Reply>
         requires { IsTrue (has_session self.old session) }
-        ensures ok { IfOk result (λ reply. (self.new, reply) ≡ insert self.old session (session_of self.old session) row.now) }
+        ensures ok { IfOk result (λ reply. (self.new, reply) ≡ insert_call self.old session (session_of self.old session) row.now) }
         ensures err { OnErr result (self.new ≡ self.old) }
     {
         if is_busy(&self.locks, session, row) {
@@ -260,7 +260,7 @@ impl Plain {
     // A copy of the row's value for a session.
     fn copied_row_value(&self, session: u16, row: &Name) -> Mem<Option<Value>>
         requires { IsTrue (has_session self.now session) }
-        ensures { IfOk result (λ value. value ≡ row_value (session_of self.now session) (current self.now row.now) row.now) }
+        ensures { IfOk result (λ value. value ≡ row_value (session_of self.now session) (current_value self.now row.now) row.now) }
     {
         match self.row_value(session, row) {
             Some(value) => Ok(Some(value.copy()?)),
@@ -270,7 +270,7 @@ impl Plain {
 
     fn lock(&mut self, session: u16, to: &LocName, row: &Name) -> Mem<Reply>
         requires { IsTrue (has_session self.old session) }
-        ensures ok { IfOk result (λ reply. (self.new, reply) ≡ lock self.old session (session_of self.old session) to.now row.now) }
+        ensures ok { IfOk result (λ reply. (self.new, reply) ≡ lock_call self.old session (session_of self.old session) to.now row.now) }
         ensures err { OnErr result (self.new ≡ self.old) }
     {
         if self.part(session).lacks_room(to) {
@@ -289,14 +289,14 @@ impl Plain {
 
     fn length(&self, session: u16, at: &LocName) -> Reply
         requires { IsTrue (has_session self.now session) }
-        ensures { (self.now, result) ≡ put_into self.now session (length_call (session_of self.now session) at.now) }
+        ensures { (self.now, result) ≡ part_step self.now session (length_call (session_of self.now session) at.now) }
     {
         self.part(session).length(at)
     }
 
     fn read(&self, session: u16, at: &LocName, amount: u64, offset: u64) -> Mem<Reply>
         requires { IsTrue (has_session self.now session) }
-        ensures { IfOk result (λ reply. (self.now, reply) ≡ put_into self.now session (read_call (session_of self.now session) at.now amount offset)) }
+        ensures { IfOk result (λ reply. (self.now, reply) ≡ part_step self.now session (read_call (session_of self.now session) at.now amount offset)) }
     {
         let reply = self.part(session).read(at, amount, offset)?;
         Ok(reply)
@@ -305,7 +305,7 @@ impl Plain {
     // The row of a locator, or none where there is no such locator.
     fn row_of(&self, session: u16, at: &LocName) -> Mem<Option<Name>>
         requires { IsTrue (has_session self.now session) }
-        ensures { IfOk result (λ row. row ≡ option_map (λ l. l.row) (named (session_of self.now session) at.now)) }
+        ensures { IfOk result (λ row. row ≡ option_map (λ l. l.row) (locator_named (session_of self.now session) at.now)) }
     {
         match self.part(session).locator(at) {
             Some(locator) => Ok(Some(locator.row.copy()?)),
@@ -330,7 +330,7 @@ impl Plain {
 
     fn end(&mut self, session: u16) -> Reply
         requires { IsTrue (has_session self.old session) }
-        ensures { (self.new, result) ≡ end self.old session (session_of self.old session) }
+        ensures { (self.new, result) ≡ end_call self.old session (session_of self.old session) }
     {
         let part = &mut self.sessions[session as usize - 1];
         part.end();
@@ -340,7 +340,7 @@ impl Plain {
 
     fn commit(&mut self, session: u16) -> Mem<Reply>
         requires { IsTrue (has_session self.old session) }
-        ensures ok { IfOk result (λ reply. (self.new, reply) ≡ commit self.old session (session_of self.old session)) }
+        ensures ok { IfOk result (λ reply. (self.new, reply) ≡ commit_call self.old session (session_of self.old session)) }
         ensures err { OnErr result (self.new ≡ self.old) }
     {
         if !self.part(session).is_open() {
@@ -385,7 +385,7 @@ impl Plain {
     pub fn step(&mut self, token: Token, call: &Call) -> Mem<Option<Reply>>
         requires legal { IsLegalWhere (never_due self.old token.session call.now) self.old token.session token.kind call.now }
         requires built { IsTrue (has_step call.now) }
-        ensures ok { IfOk result (λ answer. (self.new, answer) ≡ applied self.old token.session token.kind call.now) }
+        ensures ok { IfOk result (λ answer. (self.new, answer) ≡ entry_effect self.old token.session token.kind call.now) }
         ensures refused { IfOk result (λ answer. (fault : Refusal) → answer ≡ Some (replies.Refused fault) → self.new ≡ self.old) }
         ensures err { OnErr result (self.new ≡ self.old) }
     {

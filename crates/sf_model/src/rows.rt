@@ -4,10 +4,10 @@ ghost use Rattle.std.specs.Option.{option_copied};
 ghost use Rattle.std.specs.List.{All};
 ghost use Rattle.std.specs.List.Sorted.{IsStrictlySortedBy};
 ghost use Rattle.std.specs.Map.{keys_of};
-ghost use Rattle.sf_types.specs.Names.{name_cmp};
-ghost use Rattle.sf_types.specs.NameMaps.{get, has, put};
-ghost use Rattle.sf_types.specs.Versions.{or_absent, later, present};
-ghost use Rattle.sf_types.specs.Rows.{row_ends};
+ghost use Rattle.sf_types.specs.Values.Names.{name_cmp};
+ghost use Rattle.sf_types.specs.Inside.NameMaps.{get, has, with_entry};
+ghost use Rattle.sf_types.specs.Table.Versions.{value_or_absent, later_change, present_values};
+ghost use Rattle.sf_types.specs.Orders.RowEnds.{row_ends};
 ghost use Rattle.sf_model.specs.Sayings.{SaysTheSame, KeepsNames};
 
 use crate::value::Value;
@@ -22,7 +22,7 @@ pub type Change = (Name, Option<Value>);
 
 /// The value that is said of a row, or none where it is absent or isn't named.
 pub fn said_value<'a>(rows: &'a Rows, row: &Name) -> Option<&'a Value>
-    ensures { option_copied result ≡ or_absent (get rows.now row.now) }
+    ensures { option_copied result ≡ value_or_absent (get rows.now row.now) }
 {
     match rows.get(row) {
         Some(said) => said.as_ref(),
@@ -79,7 +79,7 @@ pub fn make_places(rows: &mut Rows, changes: &[Change]) -> Mem<()>
 /// Says what the changes say, each of a row that is named. It takes no memory.
 pub fn say_all(rows: &mut Rows, changes: Vec<Change>)
     requires { All (λ change. IsTrue (has rows.old change.0)) changes.items }
-    ensures { (q : List ℕ) → get rows.new q ≡ later (get rows.old q) (get changes.items q) }
+    ensures { (q : List ℕ) → get rows.new q ≡ later_change (get rows.old q) (get changes.items q) }
 {
     let mut left = changes;
     while let Some((name, value)) = left.pop() {
@@ -90,7 +90,7 @@ pub fn say_all(rows: &mut Rows, changes: Vec<Change>)
 // Says one change of a row that is named.
 fn say(rows: &mut Rows, name: Name, value: Option<Value>)
     requires { IsTrue (has rows.old name) }
-    ensures { rows.new ≡ put rows.old name value }
+    ensures { rows.new ≡ with_entry rows.old name value }
 {
     match rows.insert(name, value) {
         Ok(()) => {}
@@ -100,7 +100,7 @@ fn say(rows: &mut Rows, name: Name, value: Option<Value>)
 
 /// What is told of each row that is present, in byte order of names.
 pub fn rows_present(alloc: Global, rows: &Rows) -> Mem<RowList>
-    ensures ends { IfOk result (λ ends. ends ≡ row_ends (present rows.now)) }
+    ensures ends { IfOk result (λ ends. ends ≡ row_ends (present_values rows.now)) }
     ensures ordered { IsStrictlySortedBy name_cmp (keys_of rows.now) }
 {
     let mut ends = List::new(alloc);

@@ -1,16 +1,16 @@
 //! The part of one session.
 ghost use Rattle.std.specs.Prelude.{◌≡◌, [], ◌∷◌, None, Some, false, IsSome, IfOk, OnOk, OnErr, MatchResult};
 ghost use Rattle.std.specs.Option.{option_copied};
-ghost use Rattle.sf_types.specs.Table.{new_session};
-ghost use Rattle.sf_types.specs.Sessions.{in_transaction, transaction, row_value, lacks_room};
-ghost use Rattle.sf_types.specs.RowCalls.{inserted, locked};
-ghost use Rattle.sf_types.specs.NameMaps.{put};
-ghost use Rattle.sf_types.specs.Refusals.{first_of};
+ghost use Rattle.sf_types.specs.Table.Parts.{new_session};
+ghost use Rattle.sf_types.specs.Table.Sessions.{with_transaction, transaction_number, row_value, lacks_room};
+ghost use Rattle.sf_types.specs.Calls.RowCalls.{after_insert, after_lock};
+ghost use Rattle.sf_types.specs.Inside.NameMaps.{with_entry};
+ghost use Rattle.sf_types.specs.Calls.Refusals.{first_refusal};
 ghost use Rattle.sf_types.specs.declared.call.Call.TheVariants as calls;
-ghost use Rattle.sf_types.specs.LocatorCalls.{named, length_call, read_call};
-ghost use Rattle.sf_types.specs.WritingCalls.{spans_transactions, writing_refusals, write};
+ghost use Rattle.sf_types.specs.Calls.LocatorCalls.{locator_named, length_call, read_call};
+ghost use Rattle.sf_types.specs.Calls.WritingCalls.{spans_transactions, writing_refusals, write_call};
 ghost use Rattle.sf_model.specs.Writable.{IsWritable};
-ghost use Rattle.sf_types.specs.Ends.{committed, ended};
+ghost use Rattle.sf_types.specs.Calls.TransactionEnds.{after_commit, after_end};
 
 use crate::locator::Locator;
 use crate::rows::Rows;
@@ -40,7 +40,7 @@ pub struct Session {
 
 impl Model for Session {
     ghost use Rattle.std.specs.Prelude.{None, []};
-    ghost use Rattle.sf_types.specs.Table.{Session as SessionPart};
+    ghost use Rattle.sf_types.specs.Table.Parts.{Session as SessionPart};
 
     ghost Value = { SessionPart };
 
@@ -100,7 +100,7 @@ impl Session {
 
     /// The locator of a name. None exactly where it isn't there.
     pub fn locator(&self, at: &LocName) -> Option<&Locator>
-        ensures { option_copied result ≡ named self.now at.now }
+        ensures { option_copied result ≡ locator_named self.now at.now }
     {
         self.locators.get(at)
     }
@@ -115,7 +115,7 @@ impl Session {
 
     // The number of the open transaction, or 0.
     fn transaction(&self) -> u64
-        ensures { result ≡ transaction self.now }
+        ensures { result ≡ transaction_number self.now }
     {
         if self.is_open { self.opened } else { 0 }
     }
@@ -174,7 +174,7 @@ impl Session {
     ) -> Result<(&'a Locator, &'a Value), Fault>
         ensures { MatchResult result
             (λ both. IsWritable self.now is_held (option_copied current.entry) at.now both.0.now both.1.now)
-            (λ fault. first_of (writing_refusals self.now is_held (option_copied current.entry) at.now (at.now ∷ [])) ≡ Some fault) }
+            (λ fault. first_refusal (writing_refusals self.now is_held (option_copied current.entry) at.now (at.now ∷ [])) ≡ Some fault) }
     {
         let Some(locator) = self.locator(at) else {
             return Err(Fault::UnknownLocator);
@@ -199,10 +199,10 @@ impl Session {
 
     // Makes a value the working one and sets a locator that is there, or changes nothing.
     fn put_written(&mut self, at: LocName, locator: Locator, value: Value) -> Mem<()>
-        requires { IsSome (named self.old at) }
+        requires { IsSome (locator_named self.old at) }
         ensures ok { OnOk result (self.new ≡ record self.old {
-          working = put self.old.working locator.row (Some value);
-          locators = put self.old.locators at locator;
+          working = with_entry self.old.working locator.row (Some value);
+          locators = with_entry self.old.locators at locator;
         }) }
         ensures err { OnErr result (self.new ≡ self.old) }
     {
@@ -222,7 +222,7 @@ impl Session {
         at: &LocName,
         buffer: &[u8],
     ) -> Mem<Reply>
-        ensures ok { IfOk result (λ reply. (self.new, reply) ≡ write self.old is_held (option_copied current.entry) at.now (calls.WriteAppend at.now buffer.now)) }
+        ensures ok { IfOk result (λ reply. (self.new, reply) ≡ write_call self.old is_held (option_copied current.entry) at.now (calls.WriteAppend at.now buffer.now)) }
         ensures err { OnErr result (self.new ≡ self.old) }
     {
         let (locator, value) = match self.writable(is_held, current, at) {
@@ -251,7 +251,7 @@ impl Session {
 
     // The number of transactions opened, with the one that is opened now.
     fn next_opened(&self) -> Mem<u64>
-        ensures { IfOk result (λ opened. opened ≡ (in_transaction self.now).opened) }
+        ensures { IfOk result (λ opened. opened ≡ (with_transaction self.now).opened) }
     {
         if self.is_open {
             return Ok(self.opened);
@@ -262,7 +262,7 @@ impl Session {
 
     /// What Insert does to the session's part, or nothing.
     pub fn insert_row(&mut self, row: Name) -> Mem<()>
-        ensures ok { OnOk result (self.new ≡ inserted self.old row) }
+        ensures ok { OnOk result (self.new ≡ after_insert self.old row) }
         ensures err { OnErr result (self.new ≡ self.old) }
     {
         let opened = self.next_opened()?;
@@ -275,7 +275,7 @@ impl Session {
 
     /// What Lock does to the session's part, where the row's value is `value`, or nothing.
     pub fn lock_row(&mut self, to: LocName, row: Name, value: Value) -> Mem<()>
-        ensures ok { OnOk result (self.new ≡ locked self.old to row value) }
+        ensures ok { OnOk result (self.new ≡ after_lock self.old to row value) }
         ensures err { OnErr result (self.new ≡ self.old) }
     {
         let opened = self.next_opened()?;
@@ -312,7 +312,7 @@ impl Session {
 
     /// Closes the open transaction as a commit does, and hands its working values out. It takes no memory.
     pub fn commit(&mut self) -> Rows
-        ensures part { self.new ≡ committed self.old }
+        ensures part { self.new ≡ after_commit self.old }
         ensures working { result ≡ self.old.working }
     {
         self.is_open = false;
@@ -325,7 +325,7 @@ impl Session {
 
     /// What End does to the session's part. It takes no memory.
     pub fn end(&mut self)
-        ensures { self.new ≡ ended self.old }
+        ensures { self.new ≡ after_end self.old }
     {
         self.is_open = false;
         self.working = NameMap::new(self.alloc);

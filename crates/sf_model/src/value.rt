@@ -2,8 +2,8 @@
 ghost use Rattle.std.specs.Prelude.{◌≡◌, ◌+◌, ◌-◌, ◌≤◌, ◌++◌, length, take, drop, IfOk, OnOk};
 ghost use Rattle.std.specs.List.{flat_map};
 ghost use Rattle.sha2.specs.Sha256.{sha256};
-ghost use Rattle.sf_types.specs.Values.{empty_value, fresh, strip, size_of};
-ghost use Rattle.sf_types.specs.LocatorCalls.{read_bytes};
+ghost use Rattle.sf_types.specs.Values.Marks.{empty_value, fresh_bytes, strip, size_of};
+ghost use Rattle.sf_types.specs.Calls.LocatorCalls.{read_bytes};
 
 use sf_types::{Blob, Choice, Exact, List, Mem, Sum, TryCopy};
 use sha2::{Digest, Sha256};
@@ -26,11 +26,11 @@ pub struct Value {
 impl Model for Value {
     ghost use Rattle.std.specs.Prelude.{◌≡◌, ◌≤◌, length};
     ghost use Rattle.std.specs.List.{flat_map};
-    ghost use Rattle.sf_types.specs.Values.{Value as RowValue, fresh};
+    ghost use Rattle.sf_types.specs.Values.Marks.{Value as RowValue, fresh_bytes};
 
     ghost Value = { RowValue };
 
-    ghost view = { λ v. record { bytes = fresh (flat_map (λ piece. piece) v.pieces); choice = v.choice } };
+    ghost view = { λ v. record { bytes = fresh_bytes (flat_map (λ piece. piece) v.pieces); choice = v.choice } };
 
     ghost invariant = { λ v. (v.len ≡ length (flat_map (λ piece. piece) v.pieces)) × (v.len ≤ 67108864) };
 }
@@ -128,7 +128,7 @@ impl Value {
     /// A value with a buffer at its end, whose bytes are fresh.
     pub fn appended(&self, buffer: &[u8]) -> Mem<Value>
         requires { size_of self.now + length buffer.now ≤ 67108864 }
-        ensures { IfOk result (λ value. value ≡ record self.now { bytes = self.now.bytes ++ fresh buffer.now }) }
+        ensures { IfOk result (λ value. value ≡ record self.now { bytes = self.now.bytes ++ fresh_bytes buffer.now }) }
     {
         Ok(Value {
             pieces: longer(&self.pieces, buffer)?,

@@ -6,7 +6,8 @@ use Rattle.std.proofs.lemmas.Bool.{ltb-false, and_parts, and_from}
 use Rattle.std.proofs.lemmas.List.{length-replicate, length-set, length-append}
 use Rattle.std.proofs.lemmas.List.Sums.{sum_by-set, sum_by-append}
 use Rattle.std.proofs.lemmas.List.Folds.{list_all-append, sum_by-replicate}
-use Rattle.sf_types.specs.Limits.{IsInRange, standard_options, buffer_bytes}
+use Rattle.sf_types.specs.Limits.{IsInRange, standard_options}
+use Rattle.sf_types.specs.declared.limits.TheConstants.{BUFFER_BYTES}
 use Rattle.sf_types.specs.declared.call.Call.{Call}
 use Rattle.sf_script.specs.Drafts.{IsDraft}
 use Rattle.sf_script.specs.Limits.{script_calls, script_payload_bytes}
@@ -76,8 +77,8 @@ with_call_is_draft parts count bytes session call draft low high stands room =
     let counted = sum_by-set length parts.calls i new [] within in
     let weighed = sum_by-set (sum_by payload_length) parts.calls i new [] within in
     let heavier = sum_by-append payload_length old (call ∷ []) in
-    let both = no_or (ltb buffer_bytes (payload_length call) || ltb script_calls (call_count parts.calls + 1)) (ltb script_payload_bytes (payload_bytes parts.calls + payload_length call)) room in
-    let few = ltb-false _ _ (no_or (ltb buffer_bytes (payload_length call)) (ltb script_calls (call_count parts.calls + 1)) both.0).1 in
+    let both = no_or (ltb BUFFER_BYTES (payload_length call) || ltb script_calls (call_count parts.calls + 1)) (ltb script_payload_bytes (payload_bytes parts.calls + payload_length call)) room in
+    let few = ltb-false _ _ (no_or (ltb BUFFER_BYTES (payload_length call)) (ltb script_calls (call_count parts.calls + 1)) both.0).1 in
     let small = ltb-false _ _ both.1 in
     let all_new : list_all can_stand new ≡ true = list_all-append can_stand old (call ∷ []) ∙ and_from _ _ (all_at can_stand parts.calls i draft.script.stands) (and_from (can_stand call) true stands refl) in
     record {

@@ -1,6 +1,6 @@
 -- How calls are spelled, from the first word of a call to its last.
 use Rattle.std.specs.Prelude.{ℕ, true, false, List, length, Option, Some, None, if◌then◌else◌, codes}
-use Rattle.sf_types.specs.Names.{name_of}
+use Rattle.sf_types.specs.Values.Names.{name_of}
 use Rattle.sf_types.specs.declared.call.Call.{Call}
 use Rattle.sf_types.specs.declared.call.Call.TheVariants as calls
 use Rattle.sf_script.specs.declared.call.PayloadCall.{PayloadCall}

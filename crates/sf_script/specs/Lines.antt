@@ -1,7 +1,7 @@
 -- The lines of a text.
 use Rattle.std.specs.Prelude.{ℕ, Bool, true, false, ◌==◌, List, [], ◌∷◌}
 use Rattle.std.specs.List.{slice_split}
-use Rattle.sf_types.specs.Names.{is_between}
+use Rattle.sf_types.specs.Values.Names.{is_between}
 
 -- A line, and whether a line feed ends it.
 pub record Line : Type 0 where

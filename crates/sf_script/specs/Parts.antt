@@ -2,7 +2,7 @@
 use Rattle.std.specs.Prelude.{◌≡◌, ℕ, ◌≤◌, Bool, true, false, not, ◌&&◌, nat_le, List, length, IsTrue}
 use Rattle.std.specs.List.{list_all, sum_by}
 use Rattle.sf_types.specs.Limits.{IsInRange}
-use Rattle.sf_types.specs.Step.{has_step}
+use Rattle.sf_types.specs.Calls.Steps.{has_step}
 use Rattle.sf_types.specs.declared.options.Options.{Options}
 use Rattle.sf_types.specs.declared.call.Call.{Call}
 use Rattle.sf_types.specs.declared.call.Call.TheVariants as calls

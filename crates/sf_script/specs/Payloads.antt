@@ -2,7 +2,7 @@
 use Rattle.std.specs.Prelude.{ℕ, ◌+◌, ◌-◌, ◌*◌, ◌%◌, Bool, true, not, ◌&&◌, ◌||◌, ◌==◌, nat_le, List, [], ◌∷◌, length, take, drop, slice_index, replicate, Option, Some, None, if◌then◌else◌}
 use Rattle.std.specs.Option.{option_or}
 use Rattle.std.specs.List.{list_all, slice_range}
-use Rattle.sf_types.specs.Names.{is_between}
+use Rattle.sf_types.specs.Values.Names.{is_between}
 use Rattle.sf_script.specs.Gives.{◌>>=◌}
 use Rattle.sf_script.specs.Numbers.{is_digit, number_of}
 

@@ -2,7 +2,8 @@
 use Rattle.std.specs.Prelude.{ℕ, ◌+◌, ◌-◌, Bool, false, not, ◌&&◌, ◌||◌, nat_le, nat_lt, List, [], ◌∷◌, ◌++◌, length, replicate, slice_index_or, slice_set, Option, Some, None, is_none, if◌then◌else◌, codes}
 use Rattle.std.specs.List.{list_all}
 use Rattle.std.specs.Option.{option_map_or}
-use Rattle.sf_types.specs.Limits.{buffer_bytes, standard_options}
+use Rattle.sf_types.specs.declared.limits.TheConstants.{BUFFER_BYTES}
+use Rattle.sf_types.specs.Limits.{standard_options}
 use Rattle.sf_types.specs.declared.call.Call.{Call}
 use Rattle.sf_script.specs.declared.fault.Reason.{Reason}
 use Rattle.sf_script.specs.declared.fault.Reason.TheVariants.{Bytes, Place, Session, Form, Later, Limit}
@@ -44,7 +45,7 @@ is_not_built reading text = option_map_or (λ form. not (is_built form)) (form_o
 -- A call's payload of so many bytes is too long, or with this call the script has too many calls or payload bytes.
 abbrev pub passes_call_limit : ScriptParts → ℕ → Bool
 passes_call_limit parts bytes =
-    nat_lt buffer_bytes bytes || nat_lt script_calls (call_count parts.calls + 1) || nat_lt script_payload_bytes (payload_bytes parts.calls + bytes)
+    nat_lt BUFFER_BYTES bytes || nat_lt script_calls (call_count parts.calls + 1) || nat_lt script_payload_bytes (payload_bytes parts.calls + bytes)
 
 -- A form passes a limit: an option or the number of sessions is out of its range, or the calls, the payload bytes or the turns are too many.
 unfoldable pub form_passes_limit : Reading → LineForm → Bool

@@ -1,6 +1,6 @@
 //! The fields of a call line.
 ghost use Rattle.std.specs.Prelude.{◌≡◌};
-ghost use Rattle.sf_types.specs.Names.{name_of};
+ghost use Rattle.sf_types.specs.Values.Names.{name_of};
 ghost use Rattle.sf_script.specs.Calls.{loc_at, row_at, number_at};
 ghost use Rattle.sf_script.specs.Gives.{Reads};
 ghost use Rattle.sf_script.specs.Numbers.{number_of};

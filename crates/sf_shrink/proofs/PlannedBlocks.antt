@@ -10,7 +10,7 @@ use Rattle.std.proofs.lemmas.List.Folds.{length-flat_map-take}
 use Rattle.std.proofs.lemmas.List.FromFn.{length-range_with_len}
 use Rattle.std.proofs.lemmas.Bool.Decides.{nat_tests}
 use Rattle.sf_types.specs.declared.place.Place.{Place}
-use Rattle.sf_types.specs.Placings.{blocks_in}
+use Rattle.sf_types.specs.Space.BlockRuns.{blocks_in}
 use Rattle.sf_types.proofs.RunLemmas.{range-split}
 use Rattle.sf_shrink.specs.Plans.{placed_blocks, planned_from, planned, shifted_blocks, ArePlaced, IsSafeWithoutGap}
 

@@ -2,8 +2,8 @@
 use Rattle.std.specs.Prelude.{◌≡◌, ◌≢◌, ℕ, ◌+◌, ◌<◌, ◌≤◌, List, [], ◌∷◌, map, length, flat_map, All, AllPairs}
 use Rattle.std.specs.List.{range_with_len}
 use Rattle.sf_types.specs.declared.place.Place.{Place}
-use Rattle.sf_types.specs.Births.{IsRising}
-use Rattle.sf_types.specs.Placings.{blocks_in}
+use Rattle.sf_types.specs.Inside.Births.{IsRising}
+use Rattle.sf_types.specs.Space.BlockRuns.{blocks_in}
 use Rattle.sf_shrink.specs.declared.shifts.Shift.{Shift}
 
 -- The blocks of all places.

@@ -1,6 +1,6 @@
 //! The plan.
 ghost use Rattle.std.specs.Prelude.{◌≡◌, ◌<◌, ◌^◌, length, IfOk};
-ghost use Rattle.sf_types.specs.Placings.{blocks_in};
+ghost use Rattle.sf_types.specs.Space.BlockRuns.{blocks_in};
 ghost use Rattle.sf_shrink.specs.Plans.{ArePlaced, planned, IsSafeWithoutGap};
 
 use sf_types::{ContentRuns, List, Mem, PlaceList, Run};

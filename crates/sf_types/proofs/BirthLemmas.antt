@@ -1,6 +1,6 @@
 -- A rising list of births goes on with a greater one.
 use Rattle.std.proofs.Common.{ℕ, ◌<◌, List, [], ◌∷◌, ◌++◌}
-use Rattle.sf_types.specs.Births.{IsBelowAll, IsRising, IsAboveAll}
+use Rattle.sf_types.specs.Inside.Births.{IsBelowAll, IsRising, IsAboveAll}
 
 IsBelowAll-push : (b : ℕ) (bs : List ℕ) (birth : ℕ) → IsBelowAll b bs → b < birth → IsBelowAll b (bs ++ birth ∷ [])
 IsBelowAll-push b [] birth below lt = (lt, tt)

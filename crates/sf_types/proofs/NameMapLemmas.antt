@@ -11,31 +11,31 @@ use Rattle.std.specs.Map.{keys_of}
 use Rattle.std.specs.FinMap.{nat_cmp-IsAntisymmetric, slice_cmp-IsAntisymmetric}
 use Rattle.std.specs.FinMap.Entries as fin
 use Rattle.std.proofs.lemmas.Cmp.{tied_itself}
-use Rattle.sf_types.specs.Names.{name_cmp}
-use Rattle.sf_types.specs.NameMaps.{NameMap, is_name_of, get, put, without}
+use Rattle.sf_types.specs.Values.Names.{name_cmp}
+use Rattle.sf_types.specs.Inside.NameMaps.{NameMap, is_same_name, get, with_entry, without_entry}
 
 -- std's words for maps and those of finite maps say the same
-insert_entry-is : {X : Type 0} (m : NameMap X) (k : List ℕ) (v : X) → put m k v ≡ fin.put name_cmp k v m
+insert_entry-is : {X : Type 0} (m : NameMap X) (k : List ℕ) (v : X) → with_entry m k v ≡ fin.put name_cmp k v m
 insert_entry-is [] k v = refl
 insert_entry-is (e ∷ m) k v = ap (λ r. match_ordering (name_cmp k e.0) ((k, v) ∷ e ∷ m) ((e.0, v) ∷ m) (e ∷ r)) (insert_entry-is m k v)
 
 pub lookup-is : {X : Type 0} (m : NameMap X) (q : List ℕ) → get m q ≡ fin.find name_cmp q m
 lookup-is [] q = refl
-lookup-is (e ∷ m) q = ap (cond (is_name_of q e.0) (Some e.1)) (lookup-is m q)
+lookup-is (e ∷ m) q = ap (cond (is_same_name q e.0) (Some e.1)) (lookup-is m q)
 
 -- what a map has at a name after a value was put
-pub get-put : {X : Type 0} (m : NameMap X) (k : List ℕ) (v : X) (q : List ℕ) → get (put m k v) q ≡ cond (is_name_of q k) (Some v) (get m q)
+pub get-put : {X : Type 0} (m : NameMap X) (k : List ℕ) (v : X) (q : List ℕ) → get (with_entry m k v) q ≡ cond (is_same_name q k) (Some v) (get m q)
 get-put m k v q =
     ap (λ n. get n q) (insert_entry-is m k v)
     ∙ lookup-is (fin.put name_cmp k v m) q
     ∙ fin.find-put name_cmp nat_list_cmp_total q k v m
-    ∙ ap (cond (is_name_of q k) (Some v)) (sym (lookup-is m q))
+    ∙ ap (cond (is_same_name q k) (Some v)) (sym (lookup-is m q))
 
 -- to put a value at a new name and to take it away again
-pub without-put : {X : Type 0} (m : NameMap X) (k : List ℕ) (v : X) → get m k ≡ None → without (put m k v) k ≡ m
+pub without-put : {X : Type 0} (m : NameMap X) (k : List ℕ) (v : X) → get m k ≡ None → without_entry (with_entry m k v) k ≡ m
 without-put [] k v none = rw (tied_itself nat_list_cmp_total k) refl
 without-put (e ∷ m) k v none =
-    elim (name_cmp k e.0) as (λ r. cond (is_eq r) (Some e.1) (get m k) ≡ None → name_cmp k e.0 ≡ r → without (match_ordering r ((k, v) ∷ e ∷ m) ((e.0, v) ∷ m) (e ∷ put m k v)) k ≡ e ∷ m) [
+    elim (name_cmp k e.0) as (λ r. cond (is_eq r) (Some e.1) (get m k) ≡ None → name_cmp k e.0 ≡ r → without_entry (match_ordering r ((k, v) ∷ e ∷ m) ((e.0, v) ∷ m) (e ∷ with_entry m k v)) k ≡ e ∷ m) [
       | Less ↦ λ h is. rw (tied_itself nat_list_cmp_total k) refl
       | Equal ↦ λ h is. absurd cc
       | Greater ↦ λ h is. rw is (ap (λ n. e ∷ n) (without-put m k v h))
@@ -49,7 +49,7 @@ pub rising_empty : (X : Type 0) → IsRisingMap {X = X} []
 unfolding IsRisingMap
 rising_empty X = tt
 
-pub rising-put : {X : Type 0} (m : NameMap X) (k : List ℕ) (v : X) → IsRisingMap m → IsRisingMap (put m k v)
+pub rising-put : {X : Type 0} (m : NameMap X) (k : List ℕ) (v : X) → IsRisingMap m → IsRisingMap (with_entry m k v)
 unfolding IsRisingMap
 rising-put m k v rising = rw insert_entry-is (fin.is_sorted-put name_cmp nat_list_cmp_total k v m rising)
 
@@ -76,7 +76,7 @@ equal Equal p = refl
 equal Greater p = absurd cc
 
 -- names that compare as one are one
-pub same_name : (a b : List ℕ) → is_name_of a b ≡ true → a ≡ b
+pub same_name : (a b : List ℕ) → is_same_name a b ≡ true → a ≡ b
 same_name a b is = slice_cmp-IsAntisymmetric nat_cmp-IsAntisymmetric a b (equal (name_cmp a b) is)
 
 below_from_all : {X : Type 0} (x : List ℕ) (m : NameMap X) → AllByRecursion (λ y. name_cmp x y ≡ Less) (keys_of m) → T (fin.below_all name_cmp x m)

@@ -10,22 +10,22 @@ use Rattle.sf_types.specs.declared.call.Call.TheVariants as call
 use Rattle.sf_types.specs.declared.reply.Fault.{Fault}
 use Rattle.sf_types.specs.declared.reply.Reply.{Reply}
 use Rattle.sf_types.specs.declared.reply.Reply.TheVariants as reply
-use Rattle.sf_types.specs.Refusals.{refused_or}
-use Rattle.sf_types.specs.Table.{Promise, Session, Table, new_session}
-use Rattle.sf_types.specs.Sessions.{has_session, session_of, with_session, holds}
-use Rattle.sf_types.specs.Values.{Value}
-use Rattle.sf_types.specs.Versions.{current, now}
-use Rattle.sf_types.specs.LocatorCalls.{locator}
-use Rattle.sf_types.specs.WritingCalls.{written_at, writing_refusal, written, result_of, answered, old_value}
-use Rattle.sf_types.specs.Ends.{commit, with_commit}
-use Rattle.sf_types.specs.Step.{put_into, write_step, step}
+use Rattle.sf_types.specs.Calls.Refusals.{refusal_or}
+use Rattle.sf_types.specs.Table.Parts.{Promise, Session, Table, new_session}
+use Rattle.sf_types.specs.Table.Sessions.{has_session, session_of, with_session, holds_lock}
+use Rattle.sf_types.specs.Values.Marks.{Value}
+use Rattle.sf_types.specs.Table.Versions.{current_value, commit_count}
+use Rattle.sf_types.specs.Calls.LocatorCalls.{locator}
+use Rattle.sf_types.specs.Calls.WritingCalls.{written_name, writing_refusal, after_write, result_of, write_reply, old_value}
+use Rattle.sf_types.specs.Calls.TransactionEnds.{commit_call, with_commit}
+use Rattle.sf_types.specs.Calls.Steps.{part_step, write_step, step}
 use Rattle.sf_types.specs.declared.history.Kind.{Kind}
 use Rattle.sf_types.specs.declared.history.Kind.TheVariants as kind
-use Rattle.sf_types.specs.Cuts.{Cut}
-use Rattle.sf_types.specs.Due.{written_row}
-use Rattle.sf_types.specs.Promises.{flush_cuts, fits_at, candidates, promised_at}
-use Rattle.sf_types.specs.Publications.{publish_of, publish_write, unpromised, with_contents, settled_flush}
-use Rattle.sf_types.specs.Orders.{applied_call, applied}
+use Rattle.sf_types.specs.Space.Cuts.{Cut}
+use Rattle.sf_types.specs.Space.Due.{written_row}
+use Rattle.sf_types.specs.Space.Promises.{flush_cuts, fits_at, floor_candidates, promise_at}
+use Rattle.sf_types.specs.Space.Publications.{publish_of, publish_write, without_promise, with_contents, settled_flush}
+use Rattle.sf_types.specs.Orders.Histories.{call_effect, entry_effect}
 
 within : (s n : ℕ) → IsTrue (nat_le 1 s && nat_le s n) → s - 1 < n
 within s n has = grind (arith, nat_tests)
@@ -41,13 +41,13 @@ abbrev IsNoRefusal : Reply → Type 0
 IsNoRefusal r = (f : Fault) → r ≡ reply.Refused f → ⊥
 
 -- what is refused leaves what was before
-before-is : {A : Type 0} (o : Option Fault) (before : A) (done : A × Reply) (f : Fault) → IsNoRefusal done.1 → (refused_or o before done).1 ≡ reply.Refused f → (refused_or o before done).0 ≡ before
+before-is : {A : Type 0} (o : Option Fault) (before : A) (done : A × Reply) (f : Fault) → IsNoRefusal done.1 → (refusal_or o before done).1 ≡ reply.Refused f → (refusal_or o before done).0 ≡ before
 before-is None before done f never is = absurd (never f is)
 before-is (Some g) before done f never is = refl
 
 -- the same of a call that changes its session's part alone
 part-is : (t : Table) (s : ℕ) (o : Option Fault) (done : Session × Reply) (f : Fault) → IsTrue (has_session t s) → IsNoRefusal done.1
-    → (put_into t s (refused_or o (session_of t s) done)).1 ≡ reply.Refused f → (put_into t s (refused_or o (session_of t s) done)).0 ≡ t
+    → (part_step t s (refusal_or o (session_of t s) done)).1 ≡ reply.Refused f → (part_step t s (refusal_or o (session_of t s) done)).0 ≡ t
 part-is t s o done f has never is = ap (with_session t s) (before-is o (session_of t s) done f never is) ∙ same_part t s has
 
 no_done : IsNoRefusal reply.Done
@@ -62,7 +62,7 @@ no_bytes bytes f is = absurd cc
 no_equal : (same : Bool) → IsNoRefusal (reply.Equal same)
 no_equal same f is = absurd cc
 
-pub answers_no_refusal : (c : Call) (v : Value) → IsNoRefusal (answered c v)
+pub answers_no_refusal : (c : Call) (v : Value) → IsNoRefusal (write_reply c v)
 answers_no_refusal (call.Erase at amount offset) v f is = absurd cc
 answers_no_refusal _ v f is = absurd cc
 
@@ -70,13 +70,13 @@ write-is : (t : Table) (s : ℕ) (at : List ℕ) (c : Call) (f : Fault) → IsTr
 write-is t s at c f has is =
     let p = session_of t s in
     let row = (locator p at).row in
-    let value = current t row in
-    part-is t s (writing_refusal p (holds t.locks s row) value at c) (written p at (result_of p value at c), answered c (old_value p value at)) f has (answers_no_refusal c (old_value p value at)) is
+    let value = current_value t row in
+    part-is t s (writing_refusal p (holds_lock t.locks s row) value at c) (after_write p at (result_of p value at c), write_reply c (old_value p value at)) f has (answers_no_refusal c (old_value p value at)) is
 
-pub commit_no_refusal : (t : Table) (s : ℕ) (p : Session) → IsNoRefusal (commit t s p).1
+pub commit_no_refusal : (t : Table) (s : ℕ) (p : Session) → IsNoRefusal (commit_call t s p).1
 commit_no_refusal t s p f is = by_open p.is_open is
   where
-    by_open : (b : Bool) → (cond {A = Table × Reply} b (with_commit t s p, reply.Committed (now t + 1)) (with_session t s (record p { savepoints = [] }), reply.Committed (now t))).1 ≡ reply.Refused f → ⊥
+    by_open : (b : Bool) → (cond {A = Table × Reply} b (with_commit t s p, reply.Committed (commit_count t + 1)) (with_session t s (record p { savepoints = [] }), reply.Committed (commit_count t))).1 ≡ reply.Refused f → ⊥
     by_open true is = cc
     by_open false is = cc
 
@@ -111,19 +111,19 @@ step_refused t s call.Rollback f has is = absurd cc
 step_refused t s call.End f has is = absurd cc
 
 -- a publication is never refused
-other_no_refusal : (t : Table) (s : ℕ) (p : Session) (c : Call) (o : Option (List ℕ)) → IsNoRefusal (option_map_or (λ at. publish_write t s p at c) o (with_session t s (unpromised p), reply.Done)).1
+other_no_refusal : (t : Table) (s : ℕ) (p : Session) (c : Call) (o : Option (List ℕ)) → IsNoRefusal (option_map_or (λ at. publish_write t s p at c) o (with_session t s (without_promise p), reply.Done)).1
 other_no_refusal t s p c None f is = no_done f is
-other_no_refusal t s p c (Some at) f is = answers_no_refusal c (old_value p (current t (written_row p at)) at) f is
+other_no_refusal t s p c (Some at) f is = answers_no_refusal c (old_value p (current_value t (written_row p at)) at) f is
 
 pub publish_no_refusal : (t : Table) (s : ℕ) (p : Session) (c : Call) → IsNoRefusal (publish_of t s p c).1
-publish_no_refusal t s p call.Commit f is = commit_no_refusal (with_contents t s call.Commit) s (record (unpromised p) { working = settled_flush t s call.Commit }) f is
-publish_no_refusal t s p c f is = other_no_refusal t s p c (written_at c) f is
+publish_no_refusal t s p call.Commit f is = commit_no_refusal (with_contents t s call.Commit) s (record (without_promise p) { working = settled_flush t s call.Commit }) f is
+publish_no_refusal t s p c f is = other_no_refusal t s p c (written_name c) f is
 
-call_refused : (t : Table) (s : ℕ) (c : Call) (o : Option Promise) (f : Fault) → IsTrue (has_session t s) → (applied_call o t s c).1 ≡ reply.Refused f → (applied_call o t s c).0 ≡ t
+call_refused : (t : Table) (s : ℕ) (c : Call) (o : Option Promise) (f : Fault) → IsTrue (has_session t s) → (call_effect o t s c).1 ≡ reply.Refused f → (call_effect o t s c).0 ≡ t
 call_refused t s c None f has is = step_refused t s c f has is
 call_refused t s c (Some q) f has is = absurd (publish_no_refusal t s (session_of t s) c f is)
 
-promise_refused : (t : Table) (s : ℕ) (c : Call) (of : List Cut) (o : Option ℕ) (r : Reply) → (promised_at t s c of o).1 ≡ Some r → (promised_at t s c of o).0 ≡ t
+promise_refused : (t : Table) (s : ℕ) (c : Call) (of : List Cut) (o : Option ℕ) (r : Reply) → (promise_at t s c of o).1 ≡ Some r → (promise_at t s c of o).0 ≡ t
 promise_refused t s c of None r is = refl
 promise_refused t s c of (Some h) r is = absurd cc
 
@@ -131,7 +131,7 @@ pub some-is : (r q : Reply) → ◌≡◌ {A = Option Reply} (Some r) (Some q) �
 some-is r q is = cc
 
 -- a refused entry leaves the table as it was
-pub entry_refused : (t : Table) (s : ℕ) (k : Kind) (c : Call) (f : Fault) → IsTrue (has_session t s) → (applied t s k c).1 ≡ Some (reply.Refused f) → (applied t s k c).0 ≡ t
+pub entry_refused : (t : Table) (s : ℕ) (k : Kind) (c : Call) (f : Fault) → IsTrue (has_session t s) → (entry_effect t s k c).1 ≡ Some (reply.Refused f) → (entry_effect t s k c).0 ≡ t
 entry_refused t s kind.Call c f has is = call_refused t s c (session_of t s).promise f has (some-is _ _ is)
-entry_refused t s kind.Promise c f has is = promise_refused t s c (flush_cuts t s c) (find (fits_at t (flush_cuts t s c)) (candidates t)) (reply.Refused f) is
+entry_refused t s kind.Promise c f has is = promise_refused t s c (flush_cuts t s c) (find (fits_at t (flush_cuts t s c)) (floor_candidates t)) (reply.Refused f) is
 entry_refused t s kind.Cancel c f has is = absurd cc

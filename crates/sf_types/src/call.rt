@@ -1,5 +1,6 @@
 //! The calls of a session, after the DBMS_LOB reference.
 use crate::blob::Blob;
+use crate::list::List;
 use crate::name::{LocName, Name};
 
 /// One call of a session. Offsets count bytes from 1, amounts and lengths count bytes.
@@ -143,3 +144,9 @@ pub enum Call {
     /// Ends the session.
     End,
 }
+
+/// The calls of one session, in order, without its End.
+pub type CallList = List<Call>;
+
+/// The calls of each session, session 1 first.
+pub type CallTable = List<CallList>;

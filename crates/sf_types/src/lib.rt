@@ -1,11 +1,14 @@
 //! The plain types of the store, and its rules as definitions (`specs/`).
 #![tactic(auto)]
 
+mod births;
 mod blob;
 mod call;
 mod call_copy;
+mod closed;
 mod copy;
 mod history;
+mod limits;
 mod list;
 mod memory;
 mod name;
@@ -15,21 +18,32 @@ mod place;
 mod played;
 mod reply;
 mod room_list;
+mod row_end;
+mod run;
+mod sum;
 mod text;
 
+pub use births::Births;
 pub use blob::{Blob, BlobList};
-pub use call::Call;
+pub use call::{Call, CallList, CallTable};
+pub use closed::Closed;
 pub use copy::{Exact, TryCopy};
 pub use history::{Entry, History, Kind, Order, Token};
+pub use limits::{
+    BLOCK_BYTES, BUFFER_BYTES, CONTENT_BYTES, LEAST_GATHER_BYTES, LOCATOR_NAME_BYTES,
+    MOST_GATHER_BYTES, OBJECT_BYTES, RETAINED_COMMITS, ROW_NAME_BYTES, SESSION_LOCATORS,
+    SESSION_SAVEPOINTS, STORE_BLOCKS, STORE_DISPENSERS, STORE_SESSIONS,
+};
 pub use list::List;
 pub use memory::{Mem, OutOfMemory};
-pub use name::{LOCATOR_NAME_BYTES, LocName, Name, ROW_NAME_BYTES};
+pub use name::{LocName, Name};
 pub use name_map::NameMap;
 pub use options::{Choice, Options};
-pub use place::{
-    Births, ContentRuns, Place, PlaceList, RowEnd, RowList, Run, Runs, RunsList, Sum, sum_of,
-};
-pub use played::{CallList, CallTable, Closed, Played, ReplyList, ReplyTable};
-pub use reply::{Fault, Reply};
+pub use place::{Place, PlaceList};
+pub use played::Played;
+pub use reply::{Fault, Reply, ReplyList, ReplyTable};
 pub use room_list::RoomList;
+pub use row_end::{RowEnd, RowList};
+pub use run::{ContentRuns, Run, Runs, RunsList};
+pub use sum::{Sum, sum_of};
 pub use text::{push_decimal, push_hex, push_reply, reply_text};

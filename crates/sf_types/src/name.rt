@@ -1,19 +1,15 @@
 //! Names of rows, and names of locators and savepoints.
 ghost use Rattle.std.specs.Prelude.{◌≡◌, IsTrue, IfOk};
-ghost use Rattle.sf_types.specs.Names.{is_name_byte, is_name, name_of};
+ghost use Rattle.sf_types.specs.Values.Names.{is_name_byte, is_name, name_of};
 ghost use Rattle.std.specs.List.{list_all};
+ghost use Rattle.sf_types.specs.declared.limits.TheConstants.{ROW_NAME_BYTES, LOCATOR_NAME_BYTES};
 
 use crate::blob::Blob;
 use crate::copy::{Exact, TryCopy};
+use crate::limits::{LOCATOR_NAME_BYTES, ROW_NAME_BYTES};
 use crate::memory::Mem;
 use std::alloc::{AllocError, Global};
 use std::marker::Model;
-
-/// The most bytes of a row's name.
-pub const ROW_NAME_BYTES: usize = 64;
-
-/// The most bytes of a locator's or a savepoint's name.
-pub const LOCATOR_NAME_BYTES: usize = 16;
 
 /// A row's name: 1 to 64 of the bytes `A-Z a-z 0-9 _ . -`, seen as their list. A copy shares the bytes.
 #[derive(Debug, PartialEq, Eq, PartialOrd, Ord, Drop)]
@@ -23,13 +19,14 @@ pub struct Name {
 
 impl Model for Name {
     ghost use Rattle.std.specs.Prelude.{ℕ, List, IsTrue};
-    ghost use Rattle.sf_types.specs.Names.{is_name};
+    ghost use Rattle.sf_types.specs.Values.Names.{is_name};
+    ghost use Rattle.sf_types.specs.declared.limits.TheConstants.{ROW_NAME_BYTES};
 
     ghost Value = { List ℕ };
 
     ghost view = { λ n. n.text };
 
-    ghost invariant = { λ n. IsTrue (is_name 64 n.text) };
+    ghost invariant = { λ n. IsTrue (is_name ROW_NAME_BYTES n.text) };
 
     ghost inverse = { λ text. record { text = text } };
 }
@@ -42,13 +39,14 @@ pub struct LocName {
 
 impl Model for LocName {
     ghost use Rattle.std.specs.Prelude.{ℕ, List, IsTrue};
-    ghost use Rattle.sf_types.specs.Names.{is_name};
+    ghost use Rattle.sf_types.specs.Values.Names.{is_name};
+    ghost use Rattle.sf_types.specs.declared.limits.TheConstants.{LOCATOR_NAME_BYTES};
 
     ghost Value = { List ℕ };
 
     ghost view = { λ n. n.text };
 
-    ghost invariant = { λ n. IsTrue (is_name 16 n.text) };
+    ghost invariant = { λ n. IsTrue (is_name LOCATOR_NAME_BYTES n.text) };
 
     ghost inverse = { λ text. record { text = text } };
 }
@@ -78,7 +76,7 @@ fn is_name(most: usize, text: &[u8]) -> bool
 impl Name {
     /// The name of these bytes. None exactly where they aren't a row's name.
     pub fn new(alloc: Global, text: &[u8]) -> Mem<Option<Name>>
-        ensures { IfOk result (λ name. name ≡ name_of 64 text.now) }
+        ensures { IfOk result (λ name. name ≡ name_of ROW_NAME_BYTES text.now) }
     {
         if is_name(ROW_NAME_BYTES, text) {
             Ok(Some(Name {
@@ -92,7 +90,7 @@ impl Name {
     /// The bytes of the name.
     pub fn as_bytes(&self) -> &[u8]
         ensures text { result.now ≡ self.now }
-        ensures name { IsTrue (is_name 64 self.now) }
+        ensures name { IsTrue (is_name ROW_NAME_BYTES self.now) }
     {
         self.text.as_bytes()
     }
@@ -101,7 +99,7 @@ impl Name {
 impl LocName {
     /// The name of these bytes. None exactly where they aren't a locator's name.
     pub fn new(alloc: Global, text: &[u8]) -> Mem<Option<LocName>>
-        ensures { IfOk result (λ name. name ≡ name_of 16 text.now) }
+        ensures { IfOk result (λ name. name ≡ name_of LOCATOR_NAME_BYTES text.now) }
     {
         if is_name(LOCATOR_NAME_BYTES, text) {
             Ok(Some(LocName {
@@ -115,7 +113,7 @@ impl LocName {
     /// The bytes of the name.
     pub fn as_bytes(&self) -> &[u8]
         ensures text { result.now ≡ self.now }
-        ensures name { IsTrue (is_name 16 self.now) }
+        ensures name { IsTrue (is_name LOCATOR_NAME_BYTES self.now) }
     {
         self.text.as_bytes()
     }

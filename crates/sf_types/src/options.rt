@@ -2,6 +2,10 @@
 ghost use Rattle.std.specs.Prelude.{◌≡◌, IsTrue, ◌↔◌};
 ghost use Rattle.sf_types.specs.Limits.{IsInRange, standard_options};
 
+use crate::limits::{
+    LEAST_GATHER_BYTES, MOST_GATHER_BYTES, RETAINED_COMMITS, STORE_BLOCKS, STORE_DISPENSERS,
+};
+
 /// The options of a store. The ranges and the defaults are this project's own.
 #[derive(Clone, Copy, Debug, PartialEq, Eq)]
 pub struct Options {
@@ -49,10 +53,11 @@ impl Options {
     pub fn in_range(&self) -> bool
         ensures { IsTrue result ↔ IsInRange self.now }
     {
-        let has_capacity = 1 <= self.capacity && self.capacity <= 65536;
-        let has_retention = self.retention <= 1000 && (!self.max || self.retention == 0);
-        let has_gather = 512 <= self.gather && self.gather <= 1048576;
-        let has_dispensers = 1 <= self.dispensers && self.dispensers <= 8;
+        let has_capacity = 1 <= self.capacity && self.capacity <= STORE_BLOCKS;
+        let has_retention = self.retention <= RETAINED_COMMITS
+            && (!self.max || self.retention == 0);
+        let has_gather = LEAST_GATHER_BYTES <= self.gather && self.gather <= MOST_GATHER_BYTES;
+        let has_dispensers = 1 <= self.dispensers && self.dispensers <= STORE_DISPENSERS;
         has_capacity && has_retention && has_gather && has_dispensers
     }
 }

@@ -3,6 +3,7 @@ ghost use Rattle.std.specs.Prelude.{◌≡◌};
 
 use crate::blob::Blob;
 use crate::copy::TryCopy;
+use crate::list::List;
 use crate::memory::Mem;
 
 /// Why a call was refused. The order of refusals is this project's own.
@@ -77,3 +78,9 @@ impl TryCopy for Reply {
         Ok(self.clone()?)
     }
 }
+
+/// The replies to one session's calls, in order.
+pub type ReplyList = List<Reply>;
+
+/// The replies to each session's calls, session 1 first.
+pub type ReplyTable = List<ReplyList>;

@@ -2,12 +2,12 @@
 ghost use Rattle.std.specs.Prelude.{◌≡◌, ◌++◌, OnOk, IfOk};
 ghost use Rattle.std.specs.Fmt.{decimal};
 ghost use Rattle.hex.specs.Hex.{encode_lower};
-ghost use Rattle.sf_types.specs.Texts.{fault_words, fault_text, bytes_text, equal_text, text_of_reply};
+ghost use Rattle.sf_types.specs.Orders.Texts.{fault_words, fault_text, bytes_text, equal_text, text_of_reply};
 
 use crate::blob::Blob;
 use crate::memory::Mem;
-use crate::place::sum_of;
 use crate::reply::{Fault, Reply};
+use crate::sum::sum_of;
 use std::alloc::Global;
 
 /// The most bytes of a reply that are printed whole.

@@ -1,6 +1,6 @@
 use Rattle.std.proofs.Common.{◌≡◌, ◌∙◌, rules, ap, refl}
-use Rattle.sf_types.specs.Rows.{ends_of}
-use Rattle.sf_types.specs.Versions.{now}
+use Rattle.sf_types.specs.Orders.RowEnds.{row_ends_of}
+use Rattle.sf_types.specs.Table.Versions.{commit_count}
 use Rattle.securefiles_cli.specs.Plays.{calls_of, opening_of, replies_of, end_of}
 use Rattle.securefiles_cli.proofs.Played.{told_to, left_by, order-is}
 use Rattle.securefiles_cli.proofs.play.play.Goals as goal
@@ -17,6 +17,6 @@ returns c =
       replies = c.table.view_is ∙ rw (c.in_ok-push.ensures.ok, c.new-table.ensures, told) refl;
       places = search rules;
       free = search rules;
-      rows = c.in_ok-rows.ensures ∙ ap ends_of left;
-      commits = c.now.ensures ∙ ap now left;
+      rows = c.in_ok-rows.ensures ∙ ap row_ends_of left;
+      commits = c.now.ensures ∙ ap commit_count left;
     }

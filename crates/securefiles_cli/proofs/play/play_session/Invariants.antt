@@ -1,6 +1,6 @@
 use Rattle.std.proofs.Common.{◌≡◌, ◌++◌, ◌∷◌, [], map, drop}
 use Rattle.sf_types.specs.declared.call.Call.TheVariants.{End}
-use Rattle.sf_types.specs.Orders.{table_after, replies_from, replies_to}
+use Rattle.sf_types.specs.Orders.Histories.{table_after, replies_from, replies_to}
 use Rattle.securefiles_cli.specs.Live.{IsLive}
 use Rattle.securefiles_cli.specs.Plays.{entry_of}
 use Rattle.securefiles_cli.proofs.play.play_session.Given as goal

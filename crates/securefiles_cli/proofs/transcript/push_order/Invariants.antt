@@ -1,7 +1,7 @@
 use Rattle.std.proofs.Common.{◌≡◌, ◌++◌, take}
 use Rattle.std.specs.Prelude.{codes}
 use Rattle.std.specs.List.{flat_map}
-use Rattle.sf_types.specs.Transcripts.{token_text}
+use Rattle.sf_types.specs.Orders.Transcripts.{token_text}
 use Rattle.securefiles_cli.proofs.transcript.push_order.Given as goal
 
 abbrev pub invariant-loop-token : goal.invariant-loop-token

@@ -1,5 +1,5 @@
 use Rattle.std.proofs.Common.{◌≡◌, ◌++◌, ◌+◌, drop}
-use Rattle.sf_types.specs.Transcripts.{reply_lines}
+use Rattle.sf_types.specs.Orders.Transcripts.{reply_lines}
 use Rattle.securefiles_cli.proofs.transcript.push_replies.Given as goal
 
 -- what was written, and what is still written

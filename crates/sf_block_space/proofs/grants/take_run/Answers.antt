@@ -1,5 +1,5 @@
 use Rattle.std.proofs.Common.{◌+◌, ◌-◌, ◌≤◌, ◌<◌, ◌^◌, refl, sym, subst, set, length, rules, arith}
-use Rattle.sf_types.specs.declared.place.Run.{Run}
+use Rattle.sf_types.specs.declared.run.Run.{Run}
 use Rattle.sf_block_space.specs.Grants.{front_of, rest_of}
 use Rattle.sf_block_space.proofs.Choices.{taken-whole, taken-front}
 use Rattle.sf_block_space.proofs.Losses.{taken-loses, taken-size}

@@ -2,8 +2,8 @@ use Rattle.std.proofs.Common.{◌-◌, ◌^◌, ◌∷◌, [], List, length, ap,
 use Rattle.std.proofs.lemmas.List.{length-append, append-nil}
 use Rattle.std.proofs.lemmas.List.FromFn.{length-range_with_len}
 use Rattle.std.proofs.lemmas.Grind.{flat_map-append}
-use Rattle.sf_types.specs.declared.place.Run.{Run}
-use Rattle.sf_types.specs.Placings.{blocks_in, blocks_in_run}
+use Rattle.sf_types.specs.declared.run.Run.{Run}
+use Rattle.sf_types.specs.Space.BlockRuns.{blocks_in, blocks_in_run}
 use Rattle.sf_block_space.specs.Grants.{IsGrant, IsRoomFor, Loses}
 use Rattle.sf_block_space.proofs.Losses.{loses-more}
 use Rattle.sf_block_space.proofs.Steps.{grant-step, room-step}

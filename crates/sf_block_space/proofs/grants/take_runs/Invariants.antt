@@ -1,7 +1,7 @@
 use Rattle.std.proofs.Common.{◌≡◌, ◌+◌, ◌-◌, ◌≤◌, ◌^◌, ◌++◌, List, length}
 use Rattle.std.specs.Prelude.{vec_len, vec_capacity}
-use Rattle.sf_types.specs.declared.place.Run.{Run}
-use Rattle.sf_types.specs.Placings.{blocks_in}
+use Rattle.sf_types.specs.declared.run.Run.{Run}
+use Rattle.sf_types.specs.Space.BlockRuns.{blocks_in}
 use Rattle.sf_block_space.specs.Free.{AreFreeRuns}
 use Rattle.sf_block_space.specs.Grants.{IsGrant, IsRoomFor, Loses}
 use Rattle.sf_block_space.proofs.grants.take_runs.Given as goal

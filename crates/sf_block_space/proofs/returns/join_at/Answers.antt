@@ -1,5 +1,5 @@
 use Rattle.std.proofs.Common.{◌+◌, ◌-◌, ◌≤◌, ◌<◌, ◌^◌, List, drop, length, refl, sym, subst, rules, arith}
-use Rattle.sf_types.specs.declared.place.Run.{Run}
+use Rattle.sf_types.specs.declared.run.Run.{Run}
 use Rattle.sf_block_space.specs.Free.{BeginsFrom}
 use Rattle.sf_block_space.proofs.Order.{run-within}
 use Rattle.sf_block_space.proofs.Places.{begins, stands-at, behind-gains, between-gains}

@@ -1,5 +1,5 @@
 use Rattle.std.proofs.Common.{◌+◌, ◌-◌, ◌≤◌, ◌^◌, List, drop, refl, sym, subst, arith}
-use Rattle.sf_types.specs.declared.place.Run.{Run}
+use Rattle.sf_types.specs.declared.run.Run.{Run}
 use Rattle.sf_block_space.specs.Free.{BeginsFrom}
 use Rattle.sf_block_space.proofs.Order.{run-within}
 use Rattle.sf_block_space.proofs.Places.{begins, before-gains, insert-gains}

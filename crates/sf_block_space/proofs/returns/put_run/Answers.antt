@@ -1,6 +1,6 @@
 use Rattle.std.proofs.Common.{◌≡◌, ◌≢◌, ℕ, ◌+◌, ◌-◌, ◌≤◌, ◌<◌, ◌^◌, List, Some, drop, length, refl, subst, rules, arith}
 use Rattle.std.specs.Prelude.{slice_get}
-use Rattle.sf_types.specs.declared.place.Run.{Run}
+use Rattle.sf_types.specs.declared.run.Run.{Run}
 use Rattle.sf_block_space.specs.Free.{BeginsFrom}
 use Rattle.sf_block_space.proofs.Searches.{past-before, begins-behind}
 use Rattle.sf_block_space.proofs.returns.put_run.Goals as goal

@@ -1,7 +1,7 @@
 use Rattle.std.proofs.Common.{◌≡◌, ◌+◌, ◌-◌, ◌<◌, ◌^◌, length, take, get_or, ap, refl, false, ◌∙◌, arith}
 use Rattle.std.proofs.lemmas.List.{append-nil}
 use Rattle.std.proofs.lemmas.List.FromFn.{length-range_with_len}
-use Rattle.sf_types.specs.Placings.{blocks_in_run}
+use Rattle.sf_types.specs.Space.BlockRuns.{blocks_in_run}
 use Rattle.sf_block_space.specs.Free.{has_block}
 use Rattle.sf_types.proofs.BoolLemmas.{none-of-both}
 use Rattle.sf_block_space.proofs.Given.{next-count, of-run, of-block, not-before, gains-more}

@@ -1,6 +1,6 @@
 use Rattle.std.proofs.Common.{◌≡◌, ◌+◌, ◌-◌, ◌≤◌, ◌^◌, length, take}
 use Rattle.std.specs.Prelude.{vec_len, vec_capacity}
-use Rattle.sf_types.specs.Placings.{blocks_in}
+use Rattle.sf_types.specs.Space.BlockRuns.{blocks_in}
 use Rattle.sf_block_space.specs.Free.{AreFreeRuns, Gains}
 use Rattle.sf_block_space.proofs.returns.put_runs.Given as goal
 

@@ -1,7 +1,7 @@
 use Rattle.std.proofs.Common.{◌≡◌, ◌++◌, ◌∙◌, List, ap, sym, subst}
 use Rattle.std.proofs.lemmas.List.{take_all}
-use Rattle.sf_types.specs.declared.place.Run.{Run}
-use Rattle.sf_types.specs.Placings.{blocks_in}
+use Rattle.sf_types.specs.declared.run.Run.{Run}
+use Rattle.sf_types.specs.Space.BlockRuns.{blocks_in}
 use Rattle.sf_block_space.specs.Free.{AreApart, AreOut, has_block}
 use Rattle.sf_types.proofs.BoolLemmas.{and-turned}
 use Rattle.sf_block_space.proofs.Out.{more-out, granted-apart}

@@ -1,4 +1,4 @@
-use Rattle.sf_types.specs.Placings.{blocks_in}
+use Rattle.sf_types.specs.Space.BlockRuns.{blocks_in}
 use Rattle.sf_block_space.specs.Free.{AreApart, AreOut}
 use Rattle.sf_block_space.proofs.tests.space_of.Given as goal
 

@@ -1,7 +1,7 @@
 use Rattle.std.proofs.Common.{◌∙◌, ◌++◌, length, take, get_or, ap, sym, append_assoc, List, ℕ, arith}
 use Rattle.std.proofs.lemmas.List.{length-append}
 use Rattle.std.proofs.lemmas.List.FromFn.{length-range_with_len}
-use Rattle.sf_types.specs.Placings.{blocks_in, blocks_in_run}
+use Rattle.sf_types.specs.Space.BlockRuns.{blocks_in, blocks_in_run}
 use Rattle.sf_types.proofs.RunLemmas.{next-blocks, next-count, no_run}
 use Rattle.sf_free_commit.proofs.Puts.{run-below}
 use Rattle.sf_free_commit.proofs.queue.put_runs.Goals as goal

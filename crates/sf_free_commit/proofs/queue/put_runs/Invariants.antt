@@ -1,6 +1,6 @@
 use Rattle.std.proofs.Common.{◌≡◌, ◌+◌, ◌≤◌, ◌++◌, length, take}
 use Rattle.std.specs.Prelude.{All, vec_len, vec_capacity}
-use Rattle.sf_types.specs.Placings.{blocks_in}
+use Rattle.sf_types.specs.Space.BlockRuns.{blocks_in}
 use Rattle.sf_free_commit.specs.Queues.{IsBelowEnd}
 use Rattle.sf_free_commit.proofs.queue.put_runs.Given as goal
 

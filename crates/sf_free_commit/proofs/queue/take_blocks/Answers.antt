@@ -1,7 +1,7 @@
 use Rattle.std.proofs.Common.{◌∙◌, ◌++◌, length, ap, append_assoc, List, ℕ, arith}
 use Rattle.std.proofs.lemmas.List.{length-append}
 use Rattle.std.proofs.lemmas.List.FromFn.{length-range_with_len}
-use Rattle.sf_types.specs.Placings.{blocks_in, blocks_in_run}
+use Rattle.sf_types.specs.Space.BlockRuns.{blocks_in, blocks_in_run}
 use Rattle.sf_free_commit.specs.Queues.{blocks_of_queue}
 use Rattle.sf_types.proofs.RunLemmas.{push-blocks}
 use Rattle.sf_free_commit.proofs.queue.take_blocks.Goals as goal

@@ -1,6 +1,6 @@
 use Rattle.std.proofs.Common.{◌≡◌, ◌+◌, ◌-◌, ◌≤◌, ◌++◌, length, min}
 use Rattle.std.specs.Prelude.{All, vec_len, vec_capacity}
-use Rattle.sf_types.specs.Placings.{blocks_in}
+use Rattle.sf_types.specs.Space.BlockRuns.{blocks_in}
 use Rattle.sf_free_commit.specs.Queues.{blocks_of_queue, IsBelowEnd}
 use Rattle.sf_free_commit.proofs.queue.take_blocks.Given as goal
 

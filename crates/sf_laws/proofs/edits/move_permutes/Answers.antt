@@ -3,14 +3,14 @@ use Rattle.std.specs.Prelude.{nat_le, IsPermutation}
 use Rattle.std.proofs.lemmas.Bool.{cases_lt}
 use Rattle.std.proofs.lemmas.Bool.Decides.{nat_tests}
 use Rattle.std.proofs.lemmas.List.Sorted.{IsPermutation-refl}
-use Rattle.sf_types.specs.Values.{Marked}
-use Rattle.sf_types.specs.Edits.{move, moved_front, moved_back}
+use Rattle.sf_types.specs.Values.Marks.{Marked}
+use Rattle.sf_types.specs.Values.Edits.{move, move_front, move_back}
 use Rattle.sf_laws.specs.Splices.{IsSameOutside}
 use Rattle.sf_laws.proofs.Swaps.{swapped_permutation, swapped_outside, front-is, back-is}
 use Rattle.sf_laws.proofs.edits.move_permutes.Goals as goal
 
 -- which of the three a move is
-to_front : (v : List Marked) (amount from to : ℕ) → to < from → move v amount from to ≡ moved_front v amount from to
+to_front : (v : List Marked) (amount from to : ℕ) → to < from → move v amount from to ≡ move_front v amount from to
 to_front v amount from to lt = let is : nat_lt to from ≡ true = grind (arith, nat_tests) in rw is refl
 
 stays : (v : List Marked) (amount from to : ℕ) → from ≤ to → to ≤ from + amount → move v amount from to ≡ v
@@ -19,7 +19,7 @@ stays v amount from to low high =
     let second : nat_le to (from + amount) ≡ true = grind (arith, nat_tests) in
     rw (first, second) refl
 
-to_back : (v : List Marked) (amount from to : ℕ) → from + amount < to → move v amount from to ≡ moved_back v amount from to
+to_back : (v : List Marked) (amount from to : ℕ) → from + amount < to → move v amount from to ≡ move_back v amount from to
 to_back v amount from to lt =
     let first : nat_lt to from ≡ false = grind (arith, nat_tests) in
     let second : nat_le to (from + amount) ≡ false = grind (arith, nat_tests) in

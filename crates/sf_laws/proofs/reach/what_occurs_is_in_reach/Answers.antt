@@ -1,9 +1,9 @@
 use Rattle.std.proofs.Common.{Some, subst}
 use Rattle.std.specs.Prelude.{Contains}
 use Rattle.std.specs.List.{AllByRecursion as Each}
-use Rattle.sf_types.specs.Values.{births_in}
-use Rattle.sf_types.specs.Table.{Table}
-use Rattle.sf_types.specs.Reach.{reach, session_values}
+use Rattle.sf_types.specs.Values.Marks.{births_in}
+use Rattle.sf_types.specs.Table.Parts.{Table}
+use Rattle.sf_types.specs.Space.Reach.{reach, session_values}
 use Rattle.sf_laws.specs.TrueMarks.{found_by}
 use Rattle.sf_laws.proofs.Each.{each_contained, each_itself}
 use Rattle.sf_laws.proofs.Held.{OfOption, OfSession, of_at}

@@ -1,4 +1,4 @@
-use Rattle.sf_types.specs.Table.{opening}
+use Rattle.sf_types.specs.Table.Parts.{opening_table}
 use Rattle.sf_laws.proofs.DistinctSteps.{distinct_opening, distinct_entry, distinct_run}
 use Rattle.sf_laws.proofs.shared_contents.shared_contents_are_distinct.Goals as goal
 
@@ -9,4 +9,4 @@ pub returns-clause-entry : goal.returns-clause-entry
 returns-clause-entry c = distinct_entry
 
 pub returns-clause-run : goal.returns-clause-run
-returns-clause-run c = λ options sessions history legal. distinct_run (opening options sessions) history legal (distinct_opening options sessions)
+returns-clause-run c = λ options sessions history legal. distinct_run (opening_table options sessions) history legal (distinct_opening options sessions)

@@ -2,15 +2,16 @@ use Rattle.std.proofs.Common.{◌≡◌, ◌<◌, [], ◌∷◌, length, map, ru
 use Rattle.std.proofs.lemmas.List.Elements.{All-nil, All-cons}
 use Rattle.sf_types.specs.declared.place.Place.{Place}
 use Rattle.sf_types.specs.Limits.{standard_options}
-use Rattle.sf_types.specs.Table.{Table, opening}
-use Rattle.sf_types.specs.Use.{blocks_of_birth}
-use Rattle.sf_types.specs.Orders.{IsLegalRun, IsWhole, run_table}
-use Rattle.sf_types.specs.Placings.{Placed, AreRuns, IsSafe}
-use Rattle.sf_types.specs.Transcripts.{placed_at, place_at}
+use Rattle.sf_types.specs.Table.Parts.{Table, opening_table}
+use Rattle.sf_types.specs.Space.Use.{blocks_of_birth}
+use Rattle.sf_types.specs.Orders.Histories.{IsLegalHistory, IsWhole, history_table}
+use Rattle.sf_types.specs.Space.Placings.{Placed, IsSafe}
+use Rattle.sf_types.specs.Space.BlockRuns.{AreRuns}
+use Rattle.sf_types.specs.Orders.Transcripts.{birth_blocks, place_of_birth}
 use Rattle.sf_laws.specs.TranscriptExamples.{first_calls, first_history}
 use Rattle.sf_laws.proofs.transcript_examples.the_first_path.Goals as goal
 
-legal-is : IsLegalRun (opening standard_options 1) first_history
+legal-is : IsLegalHistory (opening_table standard_options 1) first_history
 legal-is = search rules
 
 abbrev whole-is : IsWhole standard_options (first_calls ∷ []) (map (λ e. e.token) first_history)
@@ -27,24 +28,24 @@ returns-clause-whole c = whole-is
 
 -- the one content stands in the first block
 abbrev place : Place
-place = place_at (run_table standard_options 1 first_history) 1 (record { first = 0; blocks = 1 } ∷ [])
+place = place_of_birth (history_table standard_options 1 first_history) 1 (record { first = 0; blocks = 1 } ∷ [])
 
 abbrev end : Table
-end = run_table standard_options 1 first_history
+end = history_table standard_options 1 first_history
 
 abbrev HasItsBlocks : Placed → Type 0
 HasItsBlocks x = length x.blocks ≡ blocks_of_birth end.contents x.birth
 
 abbrev IsTold : Place → Type 0
-IsTold x = x ≡ place_at end x.birth x.runs
+IsTold x = x ≡ place_of_birth end x.birth x.runs
 
 abbrev HasRuns : Place → Type 0
 HasRuns x = AreRuns x.runs
 
-safe-is : IsSafe (run_table standard_options 1 first_history) (placed_at place ∷ [])
+safe-is : IsSafe (history_table standard_options 1 first_history) (birth_blocks place ∷ [])
 safe-is = record {
   births = refl;
-  counts = All-cons HasItsBlocks (placed_at place) [] refl (All-nil HasItsBlocks);
+  counts = All-cons HasItsBlocks (birth_blocks place) [] refl (All-nil HasItsBlocks);
   below = All-cons (λ block. block < 1024) 0 [] (omega arith) (All-nil (λ block. block < 1024));
   once = λ i j d less within. absurd (omega (arith, less, within));
 }

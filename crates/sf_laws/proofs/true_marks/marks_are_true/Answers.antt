@@ -1,4 +1,4 @@
-use Rattle.sf_types.specs.Table.{opening}
+use Rattle.sf_types.specs.Table.Parts.{opening_table}
 use Rattle.sf_laws.proofs.TrueSteps.{true_opening, true_after, true_run}
 use Rattle.sf_laws.proofs.true_marks.marks_are_true.Goals as goal
 
@@ -9,4 +9,4 @@ pub returns-clause-entry : goal.returns-clause-entry
 returns-clause-entry c = true_after
 
 pub returns-clause-run : goal.returns-clause-run
-returns-clause-run c = λ options sessions history legal. true_run (opening options sessions) history legal (true_opening options sessions)
+returns-clause-run c = λ options sessions history legal. true_run (opening_table options sessions) history legal (true_opening options sessions)

@@ -1,7 +1,7 @@
 use Rattle.std.proofs.Common.{◌≡◌, ◌∙◌, ◌++◌, ap, sym, subst, arith, length, List}
 use Rattle.std.specs.Prelude.{not}
 use Rattle.std.specs.FinMap as fin
-use Rattle.sf_types.specs.declared.place.Run.{Run}
+use Rattle.sf_types.specs.declared.run.Run.{Run}
 use Rattle.sf_lifetimes.specs.Counts.{has_birth, AreHeld, AreFew, AreExchanged, runs_of, left_over}
 use Rattle.sf_lifetimes.specs.Counted.{places_in}
 use Rattle.sf_lifetimes.specs.Ledgers.{Places, unheld, with_births, held_by}

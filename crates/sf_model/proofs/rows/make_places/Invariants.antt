@@ -1,6 +1,6 @@
 use Rattle.std.proofs.Common.{IsTrue, take}
 use Rattle.std.specs.List.{All}
-use Rattle.sf_types.specs.NameMaps.{has}
+use Rattle.sf_types.specs.Inside.NameMaps.{has}
 use Rattle.sf_model.specs.Sayings.{SaysTheSame}
 use Rattle.sf_model.proofs.rows.make_places.Given as goal
 

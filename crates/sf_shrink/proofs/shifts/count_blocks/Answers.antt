@@ -1,7 +1,7 @@
 use Rattle.std.proofs.Common.{length, take, get_or, ap, arith}
 use Rattle.std.proofs.lemmas.List.{length-append}
 use Rattle.std.proofs.lemmas.List.FromFn.{length-range_with_len}
-use Rattle.sf_types.specs.Placings.{blocks_in, blocks_in_run}
+use Rattle.sf_types.specs.Space.BlockRuns.{blocks_in, blocks_in_run}
 use Rattle.sf_types.proofs.RunLemmas.{no_run, next-blocks, next-count}
 use Rattle.sf_shrink.proofs.shifts.count_blocks.Goals as goal
 

@@ -1,6 +1,6 @@
 use Rattle.std.proofs.Common.{◌≡◌, ◌++◌, ◌∙◌, length, sym, ap, subst, arith}
 use Rattle.std.proofs.lemmas.List.{append-nil, drop_all}
-use Rattle.sf_types.specs.Placings.{blocks_in}
+use Rattle.sf_types.specs.Space.BlockRuns.{blocks_in}
 use Rattle.sf_shrink.specs.Plans.{placed_blocks, planned, planned_from, IsSafeWithoutGap}
 use Rattle.sf_shrink.proofs.PlannedBlocks.{few-blocks, next-placed, planned-safe}
 use Rattle.sf_shrink.proofs.shifts.plan.Goals as goal

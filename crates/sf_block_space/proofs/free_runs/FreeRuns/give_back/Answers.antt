@@ -1,7 +1,7 @@
 use Rattle.std.proofs.Common.{◌≡◌, List, ◌-◌, ◌<◌, ◌^◌, ap, sym, subst, length, rules, arith}
 use Rattle.std.specs.Prelude.{All}
-use Rattle.sf_types.specs.declared.place.Run.{Run}
-use Rattle.sf_types.specs.Placings.{blocks_in}
+use Rattle.sf_types.specs.declared.run.Run.{Run}
+use Rattle.sf_types.specs.Space.BlockRuns.{blocks_in}
 use Rattle.sf_block_space.specs.Free.{AreFreeRuns}
 use Rattle.sf_block_space.proofs.Order.{within-more, count-within}
 use Rattle.sf_block_space.proofs.free_runs.FreeRuns.give_back.Goals as goal

@@ -1,6 +1,6 @@
 use Rattle.std.proofs.Common.{◌∙◌, ◌++◌, length, take, drop, ap, arith}
 use Rattle.std.proofs.lemmas.List.{length-append}
-use Rattle.sf_types.specs.Placings.{blocks_in}
+use Rattle.sf_types.specs.Space.BlockRuns.{blocks_in}
 use Rattle.sf_free_commit.specs.Queues.{blocks_of_queue}
 use Rattle.sf_free_commit.proofs.Puts.{taken-and-left}
 use Rattle.sf_free_commit.proofs.committed.Committed.take_batch.Goals as goal

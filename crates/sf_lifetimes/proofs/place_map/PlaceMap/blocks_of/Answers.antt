@@ -1,7 +1,7 @@
 use Rattle.std.proofs.Common.{◌∙◌, ap, sym, length}
 use Rattle.std.specs.Option.{option_copied}
 use Rattle.std.specs.FinMap as fin
-use Rattle.sf_types.specs.Placings.{blocks_in}
+use Rattle.sf_types.specs.Space.BlockRuns.{blocks_in}
 use Rattle.sf_lifetimes.specs.Counts.{runs_in}
 use Rattle.sf_lifetimes.proofs.ByBirth.{get_is}
 use Rattle.sf_lifetimes.proofs.place_map.PlaceMap.blocks_of.Goals as goal

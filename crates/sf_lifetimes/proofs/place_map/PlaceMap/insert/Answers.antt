@@ -1,5 +1,5 @@
 use Rattle.std.proofs.Common.{◌∙◌, ap, sym, subst, length, ◌≤◌, ◌^◌}
-use Rattle.sf_types.specs.Placings.{blocks_in}
+use Rattle.sf_types.specs.Space.BlockRuns.{blocks_in}
 use Rattle.std.specs.FinMap as fin
 use Rattle.sf_lifetimes.specs.Counts.{IsCounted, IsFree, unheld_place}
 use Rattle.sf_lifetimes.proofs.ByBirth.{put_at}

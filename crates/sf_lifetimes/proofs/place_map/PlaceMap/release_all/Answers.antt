@@ -1,5 +1,5 @@
 use Rattle.std.proofs.Common.{◌∙◌, ◌≤◌, ◌++◌, [], ◌∷◌, ap, sym, subst, arith, get_or, take, List, append_assoc}
-use Rattle.sf_types.specs.declared.place.Run.{Run}
+use Rattle.sf_types.specs.declared.run.Run.{Run}
 use Rattle.sf_lifetimes.specs.Counts.{holders_in, runs_of, last_held, released}
 use Rattle.sf_lifetimes.proofs.CountLaws.{untouched, changed_next, has_own, one_released, one_length, released_more, last_more}
 use Rattle.sf_lifetimes.proofs.place_map.PlaceMap.release_all.Goals as goal

@@ -1,5 +1,5 @@
 use Rattle.std.proofs.Common.{sym, ap, ◌∙◌}
-use Rattle.sf_types.specs.RowCalls.{inserted}
+use Rattle.sf_types.specs.Calls.RowCalls.{after_insert}
 use Rattle.sf_model.specs.contracts.plain.Plain.{the_view}
 use Rattle.sf_model.proofs.Tables.{session_at, insert_done}
 use Rattle.sf_model.proofs.plain.Plain.insert.Goals as goal
@@ -12,4 +12,4 @@ returns-clause-ok c =
     let has = rw (← c.self.view_is) at c.requires in
     let part = session_at t c.args.session c.index_mut-part.result.now has c.index_mut-part.ensures.value in
     rw (← c.self.view_is)
-    (insert_done t c.args.session c.args.row.now _ _ busy there c.in_ok-insert_into.ensures.locks (c.in_ok-insert_into.ensures.part ∙ ap (λ p. inserted p c.args.row.now) part))
+    (insert_done t c.args.session c.args.row.now _ _ busy there c.in_ok-insert_into.ensures.locks (c.in_ok-insert_into.ensures.part ∙ ap (λ p. after_insert p c.args.row.now) part))

@@ -1,5 +1,5 @@
 use Rattle.std.proofs.Common.{◌≡◌, replicate}
-use Rattle.sf_types.specs.Table.{new_session}
+use Rattle.sf_types.specs.Table.Parts.{new_session}
 use Rattle.sf_model.proofs.plain.Plain.new.Given as goal
 
 abbrev pub invariant-loop : goal.invariant-loop

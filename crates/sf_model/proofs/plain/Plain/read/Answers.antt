@@ -1,5 +1,5 @@
-use Rattle.sf_types.specs.LocatorCalls.{read_call}
-use Rattle.sf_types.specs.Sessions.{session_of}
+use Rattle.sf_types.specs.Calls.LocatorCalls.{read_call}
+use Rattle.sf_types.specs.Table.Sessions.{session_of}
 use Rattle.sf_model.proofs.Tables.{put_own}
 use Rattle.sf_model.proofs.plain.Plain.read.Goals as goal
 

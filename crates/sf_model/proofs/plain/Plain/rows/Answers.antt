@@ -1,5 +1,5 @@
 use Rattle.std.proofs.Common.{ap, ◌∙◌}
-use Rattle.sf_types.specs.Rows.{row_ends, ends_of}
+use Rattle.sf_types.specs.Orders.RowEnds.{row_ends, row_ends_of}
 use Rattle.sf_model.proofs.Indexed.{present-index}
 use Rattle.sf_model.proofs.plain.Plain.rows.Goals as goal
 
@@ -8,4 +8,4 @@ returns c =
     let inside = c.self.inside in
     c.in_ok-rows.ensures.ends
     ∙ ap row_ends (present-index inside.current inside.commits.items c.in_ok-rows.ensures.ordered c.self.invariant)
-    ∙ ap ends_of c.self.view_is
+    ∙ ap row_ends_of c.self.view_is
