@@ -11,7 +11,7 @@ use Rattle.sf_types.specs.Table.Parts.{Content, Table, opening_table}
 use Rattle.sf_types.specs.Table.Sessions.{has_session}
 use Rattle.sf_types.specs.Space.Cuts.{Cut}
 use Rattle.sf_types.specs.Space.Reach.{reach}
-use Rattle.sf_types.specs.Space.Promises.{is_shared_as, found_birth, flush_cuts, with_promise, cancel}
+use Rattle.sf_types.specs.Space.Promises.{is_shared_as, found_birth, flush_cuts, table_with_promise, cancel}
 use Rattle.sf_types.specs.Space.Publications.{content_of_cut, contents_with, reached_with, contents_after, publish}
 use Rattle.sf_types.specs.Calls.Steps.{step}
 use Rattle.sf_types.specs.Orders.Histories.{IsLegal, IsLegalHistory, effect_of, table_after}
@@ -97,7 +97,7 @@ distinct_cases t s c has marks distinct =
           (distinct_among (contents_after t.contents (reach t) of) reached (reach (publish t s c).0) (distinct_after t.contents (reach t) of given distinct)
           (reach_published (Contains reached) t s c given (each_itself reached)));
       refused = distinct;
-      granted = λ none due h le fits. fewer_reached t (with_promise t s c of h) distinct refl (reach_granted (Contains (reach t)) t s c of h (reach_at_floor (Contains (reach t)) t h le within));
+      granted = λ none due h le fits. fewer_reached t (table_with_promise t s c of h) distinct refl (reach_granted (Contains (reach t)) t s c of h (reach_at_floor (Contains (reach t)) t h le within));
       cancelled = λ q is. fewer_reached t (cancel t s) distinct refl (reach_cancelled (Contains (reach t)) t s within);
     }
 

@@ -11,7 +11,7 @@ use Rattle.sf_types.specs.Table.Versions.{commit_count}
 use Rattle.sf_types.specs.Table.Sessions.{session_of}
 use Rattle.sf_types.specs.Space.Cuts.{Cut}
 use Rattle.sf_types.specs.Space.Due.{is_due}
-use Rattle.sf_types.specs.Space.Promises.{found_birth, found_births, floor_candidates, fits_at, flush_cuts, with_promise, promise_at, promise, cancel}
+use Rattle.sf_types.specs.Space.Promises.{found_birth, found_births, floor_candidates, fits_at, flush_cuts, table_with_promise, promise_at, promise, cancel}
 use Rattle.sf_types.specs.Space.Publications.{publish}
 use Rattle.sf_types.specs.Calls.Steps.{step}
 use Rattle.sf_types.specs.Orders.Histories.{IsLegalBeside, IsLegal, call_effect, entry_effect}
@@ -24,7 +24,7 @@ pub record EntryCases (t : Table) (s : ℕ) (c : Call) (Q : Table → Type 0) : 
   pub stepped : (session_of t s).promise ≡ None → is_due t s c ≡ false → Q (step t s c).0
   pub published : (q : Promise) → (session_of t s).promise ≡ Some q → c ≡ q.call → Q (publish t s c).0
   pub refused : Q t
-  pub granted : (session_of t s).promise ≡ None → is_due t s c ≡ true → (h : ℕ) → t.floor ≤ h → fits_at t (flush_cuts t s c) h ≡ true → Q (with_promise t s c (flush_cuts t s c) h)
+  pub granted : (session_of t s).promise ≡ None → is_due t s c ≡ true → (h : ℕ) → t.floor ≤ h → fits_at t (flush_cuts t s c) h ≡ true → Q (table_with_promise t s c (flush_cuts t s c) h)
   pub cancelled : (q : Promise) → (session_of t s).promise ≡ Some q → Q (cancel t s)
 
 range_from : (a n : ℕ) → Each (λ h. a ≤ h) (range_with_len a n)
@@ -40,7 +40,7 @@ candidates_from t =
     ]
 
 promise_where : (t : Table) (s : ℕ) (c : Call) (Q : Table → Type 0) (o : Option ℕ) → find (fits_at t (flush_cuts t s c)) (floor_candidates t) ≡ o → Q t
-    → ((h : ℕ) → t.floor ≤ h → fits_at t (flush_cuts t s c) h ≡ true → Q (with_promise t s c (flush_cuts t s c) h)) → Q (promise_at t s c (flush_cuts t s c) o).0
+    → ((h : ℕ) → t.floor ≤ h → fits_at t (flush_cuts t s c) h ≡ true → Q (table_with_promise t s c (flush_cuts t s c) h)) → Q (promise_at t s c (flush_cuts t s c) o).0
 promise_where t s c Q None is same more = same
 promise_where t s c Q (Some h) is same more =
     let both = each_found (λ n. t.floor ≤ n) (fits_at t (flush_cuts t s c)) (floor_candidates t) h is (candidates_from t) in

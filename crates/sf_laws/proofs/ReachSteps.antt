@@ -7,7 +7,7 @@ use Rattle.sf_types.specs.Table.Parts.{Content, Promise, Session, Table, new_ses
 use Rattle.sf_types.specs.Table.Sessions.{has_session, session_of, with_session}
 use Rattle.sf_types.specs.Space.Cuts.{Cut, stored_bytes_from}
 use Rattle.sf_types.specs.Space.Reach.{reach}
-use Rattle.sf_types.specs.Space.Promises.{flush_cuts, with_floor, with_promise, cancel}
+use Rattle.sf_types.specs.Space.Promises.{flush_cuts, with_floor, table_with_promise, cancel}
 use Rattle.sf_types.specs.Space.Publications.{births_for, contents_after, publish}
 use Rattle.sf_types.specs.Calls.Steps.{step}
 use Rattle.sf_laws.specs.TrueMarks.{IsGivenOut}
@@ -75,7 +75,7 @@ with_promise P t s promise found all =
       found = each-set (λ x. OfFound P x.promise) t.sessions (s - 1) part found of.found;
     })
 
-pub reach_granted : (P : ℕ → Type 0) (t : Table) (s : ℕ) (c : Call) (cuts : List Cut) (h : ℕ) → Each P (reach (with_floor t h)) → Each P (reach (with_promise t s c cuts h))
+pub reach_granted : (P : ℕ → Type 0) (t : Table) (s : ℕ) (c : Call) (cuts : List Cut) (h : ℕ) → Each P (reach (with_floor t h)) → Each P (reach (table_with_promise t s c cuts h))
 reach_granted P t s c cuts h all = with_promise P (with_floor t h) s (Some _) (each-found_births P t.contents (reach (with_floor t h)) cuts all) all
 
 pub reach_cancelled : (P : ℕ → Type 0) (t : Table) (s : ℕ) → Each P (reach t) → Each P (reach (cancel t s))

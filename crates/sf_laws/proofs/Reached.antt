@@ -104,11 +104,11 @@ each_from_session_births P p all =
 abbrev OfHolding : (ℕ → Type 0) → Holding → Type 0
 OfHolding P h = Each P h.births
 
-of_promise : (P : ℕ → Type 0) (s : ℕ) (o : Option Promise) → Each P (option_map_or (λ q. q.births) o []) → Each (OfHolding P) (option_map_or (λ q. record { holder = Rattle.sf_types.specs.Reach.OfPromise s; births = q.births } ∷ []) o [])
+of_promise : (P : ℕ → Type 0) (s : ℕ) (o : Option Promise) → Each P (option_map_or (λ q. q.births) o []) → Each (OfHolding P) (option_map_or (λ q. record { holder = Rattle.sf_types.specs.Space.Reach.OfPromise s; births = q.births } ∷ []) o [])
 of_promise P s None all = tt
 of_promise P s (Some q) all = (all, tt)
 
-from_promise : (P : ℕ → Type 0) (s : ℕ) (o : Option Promise) → Each (OfHolding P) (option_map_or (λ q. record { holder = Rattle.sf_types.specs.Reach.OfPromise s; births = q.births } ∷ []) o []) → Each P (option_map_or (λ q. q.births) o [])
+from_promise : (P : ℕ → Type 0) (s : ℕ) (o : Option Promise) → Each (OfHolding P) (option_map_or (λ q. record { holder = Rattle.sf_types.specs.Space.Reach.OfPromise s; births = q.births } ∷ []) o []) → Each P (option_map_or (λ q. q.births) o [])
 from_promise P s None all = tt
 from_promise P s (Some q) all = all.0
 

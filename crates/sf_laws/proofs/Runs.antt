@@ -107,15 +107,15 @@ contents-sizes [] = All-nil IsContentSize
 contents-sizes (Kept marked ∷ segments) = contents-sizes segments
 contents-sizes (Stretch run ∷ segments) = All-append IsContentSize (contents_of_stretch run) (contents_in segments) (run-sizes run) (contents-sizes segments)
 
-abbrev pub fresh_bytes : List Marked → List ℕ
-fresh_bytes marked = map (λ m. m.byte) (filter is_fresh marked)
+abbrev pub unstored_bytes : List Marked → List ℕ
+unstored_bytes marked = map (λ m. m.byte) (filter is_fresh marked)
 
-pub fresh_bytes-append : (xs ys : List Marked) → fresh_bytes (xs ++ ys) ≡ fresh_bytes xs ++ fresh_bytes ys
-fresh_bytes-append xs ys = ap (map (λ (m : Marked). m.byte)) (filter-append is_fresh xs ys) ∙ map-append (λ (m : Marked). m.byte) (filter is_fresh xs) (filter is_fresh ys)
+pub unstored_bytes-append : (xs ys : List Marked) → unstored_bytes (xs ++ ys) ≡ unstored_bytes xs ++ unstored_bytes ys
+unstored_bytes-append xs ys = ap (map (λ (m : Marked). m.byte)) (filter-append is_fresh xs ys) ∙ map-append (λ (m : Marked). m.byte) (filter is_fresh xs) (filter is_fresh ys)
 
-fresh_bytes-run : (run : List ℕ) → fresh_bytes (fresh_bytes run) ≡ run
-fresh_bytes-run [] = refl
-fresh_bytes-run (b ∷ bs) = ap (λ (xs : List ℕ). b ∷ xs) (fresh_bytes-run bs)
+unstored_bytes-fresh : (run : List ℕ) → unstored_bytes (fresh_bytes run) ≡ run
+unstored_bytes-fresh [] = refl
+unstored_bytes-fresh (b ∷ bs) = ap (λ (xs : List ℕ). b ∷ xs) (unstored_bytes-fresh bs)
 
 kept-fresh : (marked : List Marked) → list_any is_fresh marked ≡ false → filter is_fresh marked ≡ []
 kept-fresh [] none = refl
@@ -126,17 +126,17 @@ kept-fresh (m ∷ ms) none = choose (is_fresh m) none (kept-fresh ms)
     choose false none rest = rest none
 
 -- the contents joined are the fresh bytes
-pub contents-joined : (segments : List Segment) → AreMaximal segments → concat (contents_in segments) ≡ fresh_bytes (flat_map marked_in segments)
+pub contents-joined : (segments : List Segment) → AreMaximal segments → concat (contents_in segments) ≡ unstored_bytes (flat_map marked_in segments)
 contents-joined [] all = refl
 contents-joined (Kept marked ∷ segments) all =
     contents-joined segments all.1
-    ∙ ap (λ (xs : List ℕ). xs ++ fresh_bytes (flat_map marked_in segments)) (sym (ap (map (λ (m : Marked). m.byte)) (kept-fresh marked all.0)))
-    ∙ sym (fresh_bytes-append marked (flat_map marked_in segments))
+    ∙ ap (λ (xs : List ℕ). xs ++ unstored_bytes (flat_map marked_in segments)) (sym (ap (map (λ (m : Marked). m.byte)) (kept-fresh marked all.0)))
+    ∙ sym (unstored_bytes-append marked (flat_map marked_in segments))
 contents-joined (Stretch run ∷ segments) all =
     concat-append (contents_of_stretch run) (contents_in segments)
-    ∙ ap (λ (xs : List ℕ). xs ++ concat (contents_in segments)) (run-joined run ∙ sym (fresh_bytes-run run))
-    ∙ ap (λ (xs : List ℕ). fresh_bytes (fresh_bytes run) ++ xs) (contents-joined segments all.2)
-    ∙ sym (fresh_bytes-append (fresh_bytes run) (flat_map marked_in segments))
+    ∙ ap (λ (xs : List ℕ). xs ++ concat (contents_in segments)) (run-joined run ∙ sym (unstored_bytes-fresh run))
+    ∙ ap (λ (xs : List ℕ). unstored_bytes (fresh_bytes run) ++ xs) (contents-joined segments all.2)
+    ∙ sym (unstored_bytes-append (fresh_bytes run) (flat_map marked_in segments))
 
 -- stored bytes are the content's bytes, and none is fresh
 stored-bytes : (birth index : ℕ) (bytes : List ℕ) → bytes_in (stored_bytes_from birth index bytes) ≡ bytes

@@ -13,7 +13,7 @@ use Rattle.sf_types.specs.Table.Sessions.{has_session, session_of, with_session}
 use Rattle.sf_types.specs.Space.Due.{is_due, flush_of}
 use Rattle.sf_types.specs.Space.Reach.{holdings, reach}
 use Rattle.sf_types.specs.Space.Use.{blocks_of_birth, blocks_of_births, promised_blocks, use_of, free_of}
-use Rattle.sf_types.specs.Space.Promises.{found_births, wanted_blocks, flush_cuts, wanted_blocks_at, fits_at, with_floor, with_promise, cancel}
+use Rattle.sf_types.specs.Space.Promises.{found_births, wanted_blocks, flush_cuts, wanted_blocks_at, fits_at, with_floor, table_with_promise, cancel}
 use Rattle.sf_types.specs.Space.Publications.{contents_after, publish}
 use Rattle.sf_types.specs.Calls.Steps.{step}
 use Rattle.sf_types.specs.Orders.Histories.{IsLegal, IsLegalHistory, effect_of, table_after, history_table}
@@ -115,12 +115,12 @@ kept_published t s c has inv q is call =
       promises = promises_after t u s None after has locked changed (subst (GoesOn t.contents) (sym changed.contents) (goes_on_after t.contents (reach t) of)) marks.found inv.promises tt;
     }
 
-kept_granted : (t : Table) (s : ℕ) (c : Call) → IsTrue (has_session t s) → IsWithinCapacity t → (session_of t s).promise ≡ None → is_due t s c ≡ true → (h : ℕ) → t.floor ≤ h → fits_at t (flush_cuts t s c) h ≡ true → IsKept t.options (with_promise t s c (flush_cuts t s c) h)
+kept_granted : (t : Table) (s : ℕ) (c : Call) → IsTrue (has_session t s) → IsWithinCapacity t → (session_of t s).promise ≡ None → is_due t s c ≡ true → (h : ℕ) → t.floor ≤ h → fits_at t (flush_cuts t s c) h ≡ true → IsKept t.options (table_with_promise t s c (flush_cuts t s c) h)
 kept_granted t s c has inv none due h le fits =
     let p = session_of t s in
     let of = flush_cuts t s c in
     let v = with_floor t h in
-    let u = with_promise t s c of h in
+    let u = table_with_promise t s c of h in
     let marks = are_true t inv.true_marks in
     let q : Promise = record { call = c; blocks = wanted_blocks_at t of h; births = found_births t.contents (reach v) of } in
     let part : Session = record p { promise = Some q } in

@@ -9,7 +9,7 @@ ghost use Rattle.sf_laws.specs.SharedContents.{HasDistinctContents};
 /// Two shared births in reach never have the same bytes: not in the opening table, and not after a legal entry where
 /// there were none before. So there are none after every legal run.
 pub fn shared_contents_are_distinct()
-    ensures opening_table { (options : Options) (sessions : ℕ) → HasDistinctContents (opening_table options sessions) }
+    ensures opening { (options : Options) (sessions : ℕ) → HasDistinctContents (opening_table options sessions) }
     ensures entry { (t : Table) (e : Entry) → IsLegal t e.token.session e.token.kind e.call
         → HasDistinctContents t → HasDistinctContents (effect_of t e).0 }
     ensures run { (options : Options) (sessions : ℕ) (history : List Entry)

@@ -9,7 +9,7 @@ ghost use Rattle.sf_laws.specs.TrueMarks.{HasTrueMarks};
 /// All marks of the opening table are true, and each legal entry keeps them true. So they are true after every legal
 /// run.
 pub fn marks_are_true()
-    ensures opening_table { (options : Options) (sessions : ℕ) → HasTrueMarks (opening_table options sessions) }
+    ensures opening { (options : Options) (sessions : ℕ) → HasTrueMarks (opening_table options sessions) }
     ensures entry { (t : Table) (e : Entry) → IsLegal t e.token.session e.token.kind e.call
         → HasTrueMarks t → HasTrueMarks (effect_of t e).0 }
     ensures run { (options : Options) (sessions : ℕ) (history : List Entry)

@@ -10,7 +10,7 @@ ghost use Rattle.sf_laws.specs.UseWithinCapacity.{IsWithinCapacity};
 /// After every legal run the use is at most the capacity. What keeps it so holds in the opening table, and each legal
 /// entry keeps it.
 pub fn use_is_within_capacity()
-    ensures opening_table { (options : Options) (sessions : ℕ) → IsWithinCapacity (opening_table options sessions) }
+    ensures opening { (options : Options) (sessions : ℕ) → IsWithinCapacity (opening_table options sessions) }
     ensures entry { (t : Table) (e : Entry) → IsLegal t e.token.session e.token.kind e.call
         → IsWithinCapacity t → IsWithinCapacity (effect_of t e).0 }
     ensures run { (options : Options) (sessions : ℕ) (history : List Entry)

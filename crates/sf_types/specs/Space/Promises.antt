@@ -72,8 +72,8 @@ fits_at t of h = nat_le (wanted_blocks_at t of h) (free_of (with_floor t h))
 
 -- The least candidate at which the call fits becomes the floor, and the promise stands with the blocks that are wanted
 -- there and the births that are found there.
-abbrev pub with_promise : Table → ℕ → Call → List Cut → ℕ → Table
-with_promise t s c of h = with_session (with_floor t h) s (record (session_of t s) {
+abbrev pub table_with_promise : Table → ℕ → Call → List Cut → ℕ → Table
+table_with_promise t s c of h = with_session (with_floor t h) s (record (session_of t s) {
   promise = Some (record {
     call = c;
     blocks = wanted_blocks_at t of h;
@@ -91,7 +91,7 @@ last_candidate t = unwrap_or (last_or None (floor_candidates t)) t.floor
 
 -- A promise is granted at a candidate, or refused at the last one.
 abbrev pub promise_at : Table → ℕ → Call → List Cut → Option ℕ → Table × Option Reply
-promise_at t s c of (Some h) = (with_promise t s c of h, None)
+promise_at t s c of (Some h) = (table_with_promise t s c of h, None)
 promise_at t s c of None = (t, Some (no_space_at t of (last_candidate t)))
 
 -- The promise of a due call.
