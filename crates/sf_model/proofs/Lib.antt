@@ -1,7 +1,7 @@
-pub mod Indexed
-pub mod Locks
-pub mod Marks
-pub mod Pieces
-pub mod Refused
-pub mod Said
-pub mod Tables
+pub mod ChangeLemmas
+pub mod IndexLemmas
+pub mod LockLemmas
+pub mod MarkLemmas
+pub mod PieceLemmas
+pub mod RefusalLemmas
+pub mod TableLemmas

@@ -2,6 +2,7 @@
 #![tactic(auto)]
 
 mod locator;
+mod locks;
 mod plain;
 mod rows;
 mod session;

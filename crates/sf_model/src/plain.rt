@@ -13,11 +13,12 @@ ghost use Rattle.sf_types.specs.Calls.TransactionEnds.{floor_after, commit_call,
 ghost use Rattle.sf_types.specs.declared.call.Call.TheVariants as calls;
 ghost use Rattle.sf_types.specs.declared.reply.Fault.{Fault as Refusal};
 ghost use Rattle.sf_types.specs.declared.reply.Reply.TheVariants as replies;
-ghost use Rattle.sf_types.specs.Calls.Steps.{part_step, write_step, has_step, step};
-ghost use Rattle.sf_types.specs.Space.Due.{never_due};
+ghost use Rattle.sf_types.specs.Calls.Steps.{part_step, write_step, step};
+ghost use Rattle.sf_model.specs.Provisional.{has_step, never_due};
 ghost use Rattle.sf_types.specs.Orders.Histories.{IsLegalWhere, entry_effect};
 
-use crate::rows::{Rows, changes_of, make_places, rows_present, said_value, say_all};
+use crate::locks::Locks;
+use crate::rows::{Rows, changes_of, name_rows, rows_present, value_in, apply_changes};
 use crate::session::Session;
 use crate::value::Value;
 use sf_types::{
@@ -35,7 +36,7 @@ pub struct Plain {
     // What each row holds, in one map.
     current: Rows,
     floor: u64,
-    locks: NameMap<Name, u16>,
+    locks: Locks,
     sessions: Vec<Session>,
     alloc: Global,
 }
@@ -60,51 +61,9 @@ impl Model for Plain {
     ghost invariant = { λ p. HoldsCurrent p.current p.commits.items };
 }
 
-// Whether a session holds a row's lock.
-fn holds(locks: &NameMap<Name, u16>, session: u16, row: &Name) -> bool
-    ensures { result ≡ holds_lock locks.now session row.now }
-{
-    match locks.get(row) {
-        Some(holder) => *holder == session,
-        None => false,
-    }
-}
-
-// Whether another session holds a row's lock.
-fn is_busy(locks: &NameMap<Name, u16>, session: u16, row: &Name) -> bool
-    ensures { result ≡ is_busy locks.now session row.now }
-{
-    match locks.get(row) {
-        Some(holder) => *holder != session,
-        None => false,
-    }
-}
-
-// Takes a lock that no other session holds, and answers whether it is new.
-fn take_lock(locks: &mut NameMap<Name, u16>, session: u16, row: Name) -> Mem<bool>
-    ensures locks { OnOk result (locks.new ≡ with_lock locks.old session row) }
-    ensures is_new { IfOk result (λ is_new. is_new ≡ not (holds_lock locks.old session row)) }
-    ensures err { OnErr result (locks.new ≡ locks.old) }
-{
-    if holds(locks, session, &row) {
-        return Ok(false);
-    }
-    locks.insert(row, session)?;
-    Ok(true)
-}
-
-// Gives back a lock that was taken, where it was new.
-fn untake_lock(locks: &mut NameMap<Name, u16>, row: &Name, is_new: bool)
-    ensures { locks.new ≡ (if is_new then without_entry locks.old row.now else locks.old) }
-{
-    if is_new {
-        locks.remove(row);
-    }
-}
-
 // Insert of a row that isn't busy and isn't present, or nothing.
 fn insert_into(
-    locks: &mut NameMap<Name, u16>,
+    locks: &mut Locks,
     part: &mut Session,
     session: u16,
     row: &Name,
@@ -116,11 +75,11 @@ fn insert_into(
     ensures err_part { OnErr result (part.new ≡ part.old) }
 {
     let name = row.copy()?;
-    let is_new = take_lock(locks, session, row.copy()?)?;
+    let is_new = locks.take(session, row.copy()?)?;
     match part.insert_row(name) {
         Ok(()) => Ok(()),
         Err(error) => {
-            untake_lock(locks, row, is_new);
+            locks.give_back(row, is_new);
             Err(error)
         }
     }
@@ -128,7 +87,7 @@ fn insert_into(
 
 // Lock of a row that isn't busy and has this value, or nothing.
 fn lock_into(
-    locks: &mut NameMap<Name, u16>,
+    locks: &mut Locks,
     part: &mut Session,
     session: u16,
     to: &LocName,
@@ -143,21 +102,14 @@ fn lock_into(
 {
     let name = row.copy()?;
     let at = to.copy()?;
-    let is_new = take_lock(locks, session, row.copy()?)?;
+    let is_new = locks.take(session, row.copy()?)?;
     match part.lock_row(at, name, value) {
         Ok(()) => Ok(()),
         Err(error) => {
-            untake_lock(locks, row, is_new);
+            locks.give_back(row, is_new);
             Err(error)
         }
     }
-}
-
-// Takes the locks of a session away.
-fn release_all(locks: &mut NameMap<Name, u16>, session: u16)
-    ensures { locks.new ≡ without_locks locks.old session }
-{
-    locks.retain(|_, holder| *holder != session);
 }
 
 // The floor after the commit that makes the number of commits `count`.
@@ -188,7 +140,7 @@ impl Plain {
             commits: Vec::new(alloc),
             current: NameMap::new(alloc),
             floor: 0,
-            locks: NameMap::new(alloc),
+            locks: Locks::new(alloc),
             sessions: parts,
             alloc,
         })
@@ -213,7 +165,7 @@ impl Plain {
     fn current_value(&self, row: &Name) -> Option<&Value>
         ensures { option_copied result ≡ current_value self.now row.now }
     {
-        said_value(&self.current, row)
+        value_in(&self.current, row)
     }
 
     // The row's value for a session.
@@ -238,7 +190,7 @@ impl Plain {
         ensures ok { IfOk result (λ reply. (self.new, reply) ≡ insert_call self.old session (session_of self.old session) row.now) }
         ensures err { OnErr result (self.new ≡ self.old) }
     {
-        if is_busy(&self.locks, session, row) {
+        if self.locks.is_busy(session, row) {
             return Ok(Reply::Refused(Fault::Busy));
         }
         if self.is_present(session, row) {
@@ -276,7 +228,7 @@ impl Plain {
         if self.part(session).lacks_room(to) {
             return Ok(Reply::Refused(Fault::TooManyLocators));
         }
-        if is_busy(&self.locks, session, row) {
+        if self.locks.is_busy(session, row) {
             return Ok(Reply::Refused(Fault::Busy));
         }
         let Some(value) = self.copied_row_value(session, row)? else {
@@ -321,8 +273,8 @@ impl Plain {
         let Some(row) = self.row_of(session, at)? else {
             return Ok(Reply::Refused(Fault::UnknownLocator));
         };
-        let is_held = holds(&self.locks, session, &row);
-        let current = said_value(&self.current, &row);
+        let is_held = self.locks.holds(session, &row);
+        let current = value_in(&self.current, &row);
         let part = &mut self.sessions[session as usize - 1];
         let reply = part.write_append(is_held, current, at, buffer)?;
         Ok(reply)
@@ -334,7 +286,7 @@ impl Plain {
     {
         let part = &mut self.sessions[session as usize - 1];
         part.end();
-        release_all(&mut self.locks, session);
+        self.locks.release_all(session);
         Reply::Ended
     }
 
@@ -349,14 +301,14 @@ impl Plain {
         let part = &mut self.sessions[session as usize - 1];
         let changes = changes_of(self.alloc, part.working())?;
         self.commits.reserve(1)?;
-        make_places(&mut self.current, &changes)?;
+        name_rows(&mut self.current, &changes)?;
         // From here on nothing wants memory.
         match self.commits.push(part.commit()) {
             Ok(()) => {}
             Err(_) => unreachable!(),
         }
-        say_all(&mut self.current, changes);
-        release_all(&mut self.locks, session);
+        apply_changes(&mut self.current, changes);
+        self.locks.release_all(session);
         let count = self.commits.len() as u64;
         self.floor = floor_after(&self.options, self.floor, count);
         Ok(Reply::Committed(count))

@@ -8,7 +8,7 @@ ghost use Rattle.sf_types.specs.Values.Names.{name_cmp};
 ghost use Rattle.sf_types.specs.Inside.NameMaps.{get, has, with_entry};
 ghost use Rattle.sf_types.specs.Table.Versions.{value_or_absent, later_change, present_values};
 ghost use Rattle.sf_types.specs.Orders.RowEnds.{row_ends};
-ghost use Rattle.sf_model.specs.Sayings.{SaysTheSame, KeepsNames};
+ghost use Rattle.sf_model.specs.Changes.{KeepsValues, KeepsNames};
 
 use crate::value::Value;
 use sf_types::{List, Mem, Name, NameMap, RowEnd, RowList, TryCopy};
@@ -21,7 +21,7 @@ pub type Rows = NameMap<Name, Option<Value>>;
 pub type Change = (Name, Option<Value>);
 
 /// The value that is said of a row, or none where it is absent or isn't named.
-pub fn said_value<'a>(rows: &'a Rows, row: &Name) -> Option<&'a Value>
+pub fn value_in<'a>(rows: &'a Rows, row: &Name) -> Option<&'a Value>
     ensures { option_copied result ≡ value_or_absent (get rows.now row.now) }
 {
     match rows.get(row) {
@@ -51,8 +51,8 @@ pub fn changes_of(alloc: Global, rows: &Rows) -> Mem<Vec<Change>>
 }
 
 // Names a row, which is absent where it wasn't named before.
-fn make_place(rows: &mut Rows, row: &Name) -> Mem<()>
-    ensures same { SaysTheSame rows.old rows.new }
+fn name_row(rows: &mut Rows, row: &Name) -> Mem<()>
+    ensures same { KeepsValues rows.old rows.new }
     ensures keeps { KeepsNames rows.old rows.new }
     ensures there { OnOk result (IsTrue (has rows.new row.now)) }
 {
@@ -65,37 +65,34 @@ fn make_place(rows: &mut Rows, row: &Name) -> Mem<()>
     }
 }
 
-/// Names the rows of all changes, so that `say_all` wants no memory. It changes nothing of what is said.
-pub fn make_places(rows: &mut Rows, changes: &[Change]) -> Mem<()>
-    ensures same { SaysTheSame rows.old rows.new }
+/// Names the rows of all changes, so that `apply_changes` wants no memory. It changes nothing of what is said.
+pub fn name_rows(rows: &mut Rows, changes: &[Change]) -> Mem<()>
+    ensures same { KeepsValues rows.old rows.new }
     ensures there { OnOk result (All (λ change. IsTrue (has rows.new change.0)) changes.now) }
 {
     for (name, _) in changes {
-        make_place(rows, name)?;
+        name_row(rows, name)?;
     }
     Ok(())
 }
 
 /// Says what the changes say, each of a row that is named. It takes no memory.
-pub fn say_all(rows: &mut Rows, changes: Vec<Change>)
+pub fn apply_changes(rows: &mut Rows, changes: Vec<Change>)
     requires { All (λ change. IsTrue (has rows.old change.0)) changes.items }
     ensures { (q : List ℕ) → get rows.new q ≡ later_change (get rows.old q) (get changes.items q) }
 {
     let mut left = changes;
     while let Some((name, value)) = left.pop() {
-        say(rows, name, value);
+        apply_change(rows, name, value);
     }
 }
 
 // Says one change of a row that is named.
-fn say(rows: &mut Rows, name: Name, value: Option<Value>)
+fn apply_change(rows: &mut Rows, name: Name, value: Option<Value>)
     requires { IsTrue (has rows.old name) }
     ensures { rows.new ≡ with_entry rows.old name value }
 {
-    match rows.insert(name, value) {
-        Ok(()) => {}
-        Err(_) => unreachable!(),
-    }
+    rows.replace(name, value);
 }
 
 /// What is told of each row that is present, in byte order of names.

@@ -14,17 +14,11 @@ ghost use Rattle.sf_types.specs.Calls.TransactionEnds.{after_commit, after_end};
 
 use crate::locator::Locator;
 use crate::rows::Rows;
-use crate::value::{OBJECT_BYTES, Value};
-use sf_types::{Fault, LocName, Mem, Name, NameMap, OutOfMemory, Reply, TryCopy};
+use crate::value::Value;
+use sf_types::{BUFFER_BYTES, Fault, LocName, Mem, Name, NameMap, OBJECT_BYTES, OutOfMemory, Reply, SESSION_LOCATORS, TryCopy};
 use std::alloc::Global;
 use std::marker::Model;
 use std::mem;
-
-/// The most locators of a session.
-const LOCATORS: usize = 256;
-
-/// The most bytes of a buffer.
-const BUFFER_BYTES: u64 = 32_767;
 
 /// The part of one session, seen as that of the table. It has no promise and no savepoint today.
 #[derive(Drop)]
@@ -110,7 +104,7 @@ impl Session {
         ensures { result ≡ lacks_room self.now to.now }
     {
         let is_there = self.locators.get(to).is_some();
-        !is_there && LOCATORS <= self.locators.len()
+        !is_there && SESSION_LOCATORS <= self.locators.len()
     }
 
     // The number of the open transaction, or 0.
@@ -208,10 +202,8 @@ impl Session {
     {
         let row = locator.row.copy()?;
         self.working.insert(row, Some(value))?;
-        match self.locators.insert(at, locator) {
-            Ok(()) => Ok(()),
-            Err(_) => unreachable!(),
-        }
+        self.locators.replace(at, locator);
+        Ok(())
     }
 
     /// WriteAppend through a locator, where the session holds the lock of its row or not, and the row holds `current`.

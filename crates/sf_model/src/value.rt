@@ -1,17 +1,15 @@
 //! The values of rows.
 ghost use Rattle.std.specs.Prelude.{◌≡◌, ◌+◌, ◌-◌, ◌≤◌, ◌++◌, length, take, drop, IfOk, OnOk};
-ghost use Rattle.std.specs.List.{flat_map};
+ghost use Rattle.std.specs.List.{concat};
 ghost use Rattle.sha2.specs.Sha256.{sha256};
 ghost use Rattle.sf_types.specs.Values.Marks.{empty_value, fresh_bytes, strip, size_of};
 ghost use Rattle.sf_types.specs.Calls.LocatorCalls.{read_bytes};
+ghost use Rattle.sf_types.specs.declared.limits.TheConstants.{OBJECT_BYTES};
 
 use sf_types::{Blob, Choice, Exact, List, Mem, Sum, TryCopy};
 use sha2::{Digest, Sha256};
 use std::alloc::{AllocError, Global};
 use std::marker::Model;
-
-/// The most bytes of an object.
-pub const OBJECT_BYTES: u64 = 67_108_864;
 
 /// A value, seen as its marked bytes and its choice. Its bytes are all fresh today. It keeps them in pieces, of which
 /// each is at least twice as long as the next, so that a value is longer by a few bytes at the cost of those bytes,
@@ -25,14 +23,15 @@ pub struct Value {
 
 impl Model for Value {
     ghost use Rattle.std.specs.Prelude.{◌≡◌, ◌≤◌, length};
-    ghost use Rattle.std.specs.List.{flat_map};
+    ghost use Rattle.std.specs.List.{concat};
+    ghost use Rattle.sf_types.specs.declared.limits.TheConstants.{OBJECT_BYTES};
     ghost use Rattle.sf_types.specs.Values.Marks.{Value as RowValue, fresh_bytes};
 
     ghost Value = { RowValue };
 
-    ghost view = { λ v. record { bytes = fresh_bytes (flat_map (λ piece. piece) v.pieces); choice = v.choice } };
+    ghost view = { λ v. record { bytes = fresh_bytes (concat v.pieces); choice = v.choice } };
 
-    ghost invariant = { λ v. (v.len ≡ length (flat_map (λ piece. piece) v.pieces)) × (v.len ≤ 67108864) };
+    ghost invariant = { λ v. (v.len ≡ length (concat v.pieces)) × (v.len ≤ OBJECT_BYTES) };
 }
 
 // How many of the pieces stay as they are when so many bytes come behind them: those up to the last that is at least
@@ -51,7 +50,7 @@ fn kept_pieces(pieces: &[Blob], added: usize) -> usize
 
 // Some pieces and a buffer behind them, as one piece.
 fn joined(alloc: Global, pieces: &[Blob], buffer: &[u8]) -> Mem<Blob>
-    ensures { IfOk result (λ blob. blob ≡ flat_map (λ piece. piece) pieces.now ++ buffer.now) }
+    ensures { IfOk result (λ blob. blob ≡ concat pieces.now ++ buffer.now) }
 {
     let mut bytes = Vec::new(alloc);
     for piece in pieces {
@@ -64,7 +63,7 @@ fn joined(alloc: Global, pieces: &[Blob], buffer: &[u8]) -> Mem<Blob>
 // The pieces of a value that is longer by a buffer.
 fn longer(pieces: &List<Blob>, buffer: &[u8]) -> Mem<List<Blob>>
     ensures { IfOk result (λ all.
-        flat_map (λ piece. piece) all ≡ flat_map (λ piece. piece) pieces.now ++ buffer.now) }
+        concat all ≡ concat pieces.now ++ buffer.now) }
 {
     let kept = kept_pieces(pieces.as_slice(), buffer.len());
     let last = joined(pieces.allocator(), &pieces.as_slice()[kept..], buffer)?;
@@ -77,7 +76,7 @@ fn longer(pieces: &List<Blob>, buffer: &[u8]) -> Mem<List<Blob>>
 // So many bytes of some pieces after those that are skipped, or up to the end.
 fn read_pieces(alloc: Global, pieces: &[Blob], skipped: usize, amount: usize) -> Mem<Vec<u8>>
     ensures { IfOk result (λ bytes.
-        bytes.items ≡ take amount (drop skipped (flat_map (λ piece. piece) pieces.now))) }
+        bytes.items ≡ take amount (drop skipped (concat pieces.now))) }
 {
     let mut bytes = Vec::new(alloc);
     let mut skip = skipped;
@@ -96,7 +95,7 @@ fn read_pieces(alloc: Global, pieces: &[Blob], skipped: usize, amount: usize) ->
 
 // The SHA-256 of some pieces, one behind the other.
 fn sum_of_pieces(pieces: &[Blob]) -> Sum
-    ensures { result ≡ sha256 (flat_map (λ piece. piece) pieces.now) }
+    ensures { result ≡ sha256 (concat pieces.now) }
 {
     let mut hasher = Sha256::new();
     for piece in pieces {
@@ -120,14 +119,14 @@ impl Value {
     /// The number of bytes, at most 67,108,864.
     pub fn len(&self) -> u64
         ensures exact { result ≡ size_of self.now }
-        ensures most { result ≤ 67108864 }
+        ensures most { result ≤ OBJECT_BYTES }
     {
         self.len
     }
 
     /// A value with a buffer at its end, whose bytes are fresh.
     pub fn appended(&self, buffer: &[u8]) -> Mem<Value>
-        requires { size_of self.now + length buffer.now ≤ 67108864 }
+        requires { size_of self.now + length buffer.now ≤ OBJECT_BYTES }
         ensures { IfOk result (λ value. value ≡ record self.now { bytes = self.now.bytes ++ fresh_bytes buffer.now }) }
     {
         Ok(Value {

@@ -3,6 +3,6 @@ pub mod BoolLemmas
 pub mod ListLemmas
 pub mod NameMapLemmas
 pub mod NumberLemmas
-pub mod RefusedCalls
+pub mod RefusalLemmas
 pub mod RunLemmas
 pub mod VersionLemmas

@@ -1,4 +1,4 @@
--- Room that an object makes ahead of the calls that grow it, so that these take no memory.
+-- Room that an object makes ahead of the calls that grow it, so that these take no memory (our own).
 use Rattle.std.specs.Prelude.{◌≡◌, ℕ, ◌+◌, ◌≤◌, Result, OnOk, OnErr, IsOk}
 
 -- An object with room: what it holds, and how many items it can still take without memory. What is said of an object

@@ -1,5 +1,5 @@
 //! Finite maps from names.
-ghost use Rattle.std.specs.Prelude.{◌≡◌, [], length, IsTrue, IfOk, OnOk, OnErr, None, is_some};
+ghost use Rattle.std.specs.Prelude.{◌≡◌, [], length, IsTrue, IfOk, OnOk, OnErr, None, IsSome};
 ghost use Rattle.std.specs.Option.{option_copied};
 ghost use Rattle.std.specs.Ordering.{is_eq};
 ghost use Rattle.std.specs.List.Sorted.{IsStrictlySortedBy};
@@ -73,6 +73,17 @@ impl<K: Ord + Drop, V: Drop> NameMap<K, V> {
     {
         self.entries.insert(key, value)?;
         Ok(())
+    }
+
+    /// Puts a value at a key that is there. It takes no memory.
+    pub fn replace(&mut self, key: K, value: V)
+        requires { IsSome (lookup (λ other. is_eq (K.cmp key other)) self.old) }
+        ensures { self.new ≡ insert_entry K.cmp self.old key value }
+    {
+        match self.entries.insert(key, value) {
+            Ok(_) => {}
+            Err(_) => unreachable!(),
+        }
     }
 
     /// Takes the entry of a key away.

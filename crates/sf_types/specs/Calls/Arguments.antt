@@ -1,5 +1,6 @@
--- Argument rules: how the arguments of a call are refused. `size` is the length of the value that the call works on,
--- and `source` that of the source of Append and Copy.
+-- How the arguments of a call are refused (after the DBMS_LOB reference; the ranges of the fragment calls, of INSTR and of
+-- COMPARE, and the order of refusals are our own). `size` is the length of the value that the call works on, and `source`
+-- that of the source of Append and Copy.
 use Rattle.std.specs.Prelude.{ℕ, ◌+◌, ◌-◌, ◌==◌, Bool, ◌&&◌, ◌||◌, nat_lt, min, List, [], ◌∷◌, length}
 use Rattle.sf_types.specs.declared.call.Call.{Call}
 use Rattle.sf_types.specs.declared.call.Call.TheVariants as call
@@ -20,7 +21,7 @@ abbrev pub is_part_out_of_range : ℕ → ℕ → ℕ → Bool
 is_part_out_of_range amount offset size =
     amount == 0 || offset == 0 || nat_lt size (offset - 1 + amount)
 
--- A place before an item or at the end is out of range where it is 0 or past that.
+-- An offset before a byte of a value or behind its last one is out of range where it is 0 or greater.
 abbrev pub is_target_out_of_range : ℕ → ℕ → Bool
 is_target_out_of_range offset size = offset == 0 || nat_lt (size + 1) offset
 
@@ -28,7 +29,7 @@ is_target_out_of_range offset size = offset == 0 || nat_lt (size + 1) offset
 abbrev pub copied_count : ℕ → ℕ → ℕ → ℕ
 copied_count amount offset source = min amount (source - (offset - 1))
 
--- An object would be too long.
+-- Whether an object of so many bytes is too long.
 abbrev pub is_too_long : ℕ → Bool
 is_too_long size = nat_lt OBJECT_BYTES size
 
@@ -89,7 +90,7 @@ insert_arguments offset buffer size =
 abbrev pub delete_arguments : ℕ → ℕ → ℕ → List (Bool × Fault)
 delete_arguments amount offset size = (is_part_out_of_range amount offset size, fault.ArgOutOfRange) ∷ []
 
--- FragMove: the part or the place is out of range.
+-- FragMove: the part or the offset to which it goes is out of range.
 abbrev pub move_arguments : ℕ → ℕ → ℕ → ℕ → List (Bool × Fault)
 move_arguments amount from_offset to_offset size =
     (is_part_out_of_range amount from_offset size || is_target_out_of_range to_offset size, fault.ArgOutOfRange) ∷ []

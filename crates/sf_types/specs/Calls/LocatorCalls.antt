@@ -1,5 +1,6 @@
--- Locator calls that write nothing: Assign, Free, Length, Read, Instr and Compare. What such a call does is a function
--- of the session's own part.
+-- Locator calls that write nothing: Assign, Free, and GETLENGTH, READ, INSTR and COMPARE of DBMS_LOB. What such a call does
+-- is a function of the session's own part. (The order of refusals, Assign, Free, and the ranges of INSTR and COMPARE are our
+-- own.)
 use Rattle.std.specs.Prelude.{ℕ, ◌+◌, ◌-◌, Bool, false, nat_eq, List, [], ◌∷◌, ◌++◌, map, length, drop, find, bytes_eq, Option, is_none, unwrap_or}
 use Rattle.std.specs.List.{range_with_len, starts_with}
 use Rattle.sf_types.specs.declared.reply.Fault.{Fault}
@@ -51,7 +52,7 @@ abbrev pub assign_refusal : Session → List ℕ → List ℕ → Option Fault
 assign_refusal p to from =
     first_refusal (locator_refusals p (from ∷ []) ++ (lacks_room p to, fault.TooManyLocators) ∷ [])
 
--- It sets a locator to a copy of another, with all its marks and its epoch.
+-- Assign sets a locator to a copy of another, with all its marks and its epoch.
 abbrev pub assign_call : Session → List ℕ → List ℕ → Session × Reply
 assign_call p to from =
     refusal_or (assign_refusal p to from) p (record p { locators = with_entry p.locators to (locator p from) }, reply.Done)
@@ -60,7 +61,7 @@ assign_call p to from =
 abbrev pub free_refusal : Session → List ℕ → Option Fault
 free_refusal p at = first_refusal (unknown_refusals p (at ∷ []))
 
--- It takes the locator away.
+-- Free takes the locator away.
 abbrev pub free_call : Session → List ℕ → Session × Reply
 free_call p at = refusal_or (free_refusal p at) p (record p { locators = without_entry p.locators at }, reply.Done)
 
@@ -68,7 +69,7 @@ free_call p at = refusal_or (free_refusal p at) p (record p { locators = without
 abbrev pub length_refusal : Session → List ℕ → Option Fault
 length_refusal p at = first_refusal (locator_refusals p (at ∷ []))
 
--- It answers the number of bytes of the locator's own value.
+-- Length answers the number of bytes of the locator's own value.
 abbrev pub length_call : Session → List ℕ → Session × Reply
 length_call p at = refusal_or (length_refusal p at) p (p, reply.Number (size_of (locator p at).value))
 
@@ -81,16 +82,16 @@ read_refusal p at amount offset =
 abbrev pub read_bytes : Value → ℕ → ℕ → List ℕ
 read_bytes value amount offset = part (strip value) amount offset
 
--- It answers these bytes of the locator's own value.
+-- Read answers bytes of the locator's own value, as many as it asks for or up to the end.
 abbrev pub read_call : Session → List ℕ → ℕ → ℕ → Session × Reply
 read_call p at amount offset =
     refusal_or (read_refusal p at amount offset) p (p, reply.Bytes (read_bytes (locator p at).value amount offset))
 
--- Whether a pattern stands whole at a place.
+-- Whether a pattern stands whole at an offset, counted from 1.
 abbrev pub matches_at : List ℕ → List ℕ → ℕ → Bool
-matches_at bytes pattern place = starts_with nat_eq (drop (place - 1) bytes) pattern
+matches_at bytes pattern offset = starts_with nat_eq (drop (offset - 1) bytes) pattern
 
--- The least place at or after an offset where a pattern stands whole, or 0.
+-- The least offset from a given one on where a pattern stands whole, or 0.
 abbrev pub match_offset : List ℕ → List ℕ → ℕ → ℕ
 match_offset bytes pattern offset =
     unwrap_or (find (matches_at bytes pattern) (range_with_len offset (length bytes + 1 - offset))) 0
@@ -100,7 +101,7 @@ abbrev pub instr_refusal : Session → List ℕ → List ℕ → ℕ → Option 
 instr_refusal p at pattern offset =
     first_refusal (locator_refusals p (at ∷ []) ++ instr_arguments pattern offset)
 
--- It answers that place in the locator's own value.
+-- Instr answers the least offset from its own on at which the pattern stands in the locator's own value, or 0.
 abbrev pub instr_call : Session → List ℕ → List ℕ → ℕ → Session × Reply
 instr_call p at pattern offset =
     refusal_or (instr_refusal p at pattern offset) p
@@ -111,7 +112,7 @@ abbrev pub compare_refusal : Session → List ℕ → List ℕ → ℕ → ℕ �
 compare_refusal p left right amount left_offset right_offset =
     first_refusal (locator_refusals p (left ∷ right ∷ []) ++ compare_arguments amount left_offset right_offset)
 
--- It answers whether two parts are equal. A part is the bytes from its offset, amount of them or up to the end, and
+-- Compare answers whether two parts are equal. A part is the bytes from its offset, amount of them or up to the end, and
 -- nothing where the offset is past the end.
 abbrev pub compare_call : Session → List ℕ → List ℕ → ℕ → ℕ → ℕ → Session × Reply
 compare_call p left right amount left_offset right_offset =

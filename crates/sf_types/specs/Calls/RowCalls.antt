@@ -1,4 +1,5 @@
--- Row calls: Insert, Delete, Lock, Select and SelectAsOf.
+-- Row calls: Insert, Delete, Lock, Select and SelectAsOf (after the SecureFiles and Large Objects Developer's Guide; the
+-- order of refusals and SelectAsOf are our own).
 use Rattle.std.specs.Prelude.{ℕ, true, false, nat_lt, List, [], ◌∷◌, Option, Some, None, is_some, is_none, unwrap_or}
 use Rattle.sf_types.specs.declared.reply.Fault.{Fault}
 use Rattle.sf_types.specs.declared.reply.Fault.TheVariants as fault
@@ -18,27 +19,27 @@ insert_refusal t s p row = first_refusal (
     ∷ (is_some (row_value p (current_value t row) row), fault.Duplicate)
     ∷ [])
 
--- It opens a transaction if none is open, takes the lock, and the working value is empty.
+-- What Insert does to its session: a transaction is open, and the row's working value is empty.
 abbrev pub after_insert : Session → List ℕ → Session
 after_insert p row = record (with_transaction p) { working = with_entry p.working row (Some empty_value) }
 
--- Insert in the table.
+-- Insert: what it does to its session, and the row's lock is the session's.
 abbrev pub insert_call : Table → ℕ → Session → List ℕ → Table × Reply
 insert_call t s p row = refusal_or (insert_refusal t s p row) t
     (record (with_session t s (after_insert p row)) { locks = with_lock t.locks s row }, Done)
 
--- Delete: Busy as above, NoSuchRow where the row's value is absent.
+-- Delete: Busy where another session holds the row's lock, NoSuchRow where the row's value is absent.
 abbrev pub delete_refusal : Table → ℕ → Session → List ℕ → Option Fault
 delete_refusal t s p row = first_refusal (
     (is_busy t.locks s row, fault.Busy)
     ∷ (is_none (row_value p (current_value t row) row), fault.NoSuchRow)
     ∷ [])
 
--- It opens a transaction if none is open, takes the lock, and the working value is absent.
+-- What Delete does to its session: a transaction is open, and the row's working value is absent.
 abbrev pub after_delete : Session → List ℕ → Session
 after_delete p row = record (with_transaction p) { working = with_entry p.working row None }
 
--- Delete in the table.
+-- Delete: what it does to its session, and the row's lock is the session's.
 abbrev pub delete_call : Table → ℕ → Session → List ℕ → Table × Reply
 delete_call t s p row = refusal_or (delete_refusal t s p row) t
     (record (with_session t s (after_delete p row)) { locks = with_lock t.locks s row }, Done)
@@ -55,7 +56,8 @@ row_locator p row value number = record {
   is_read_only = false;
 }
 
--- Lock: TooManyLocators, then Busy as above, then NoSuchRow where the row's value is absent.
+-- Lock: TooManyLocators where the locator can't be set, then Busy where another session holds the row's lock, then NoSuchRow
+-- where the row's value is absent.
 abbrev pub lock_refusal : Table → ℕ → Session → List ℕ → List ℕ → Option Fault
 lock_refusal t s p to row = first_refusal (
     (lacks_room p to, fault.TooManyLocators)
@@ -63,39 +65,39 @@ lock_refusal t s p to row = first_refusal (
     ∷ (is_none (row_value p (current_value t row) row), fault.NoSuchRow)
     ∷ [])
 
--- The locator has the row's value and the number of the transaction, which Lock opens if none is open.
+-- The locator that Lock sets: it has the row's value and the number of the transaction, which Lock opens if none is open.
 abbrev pub lock_locator : Session → List ℕ → Value → Locator
 lock_locator p row value = row_locator p row value (with_transaction p).opened
 
--- It opens a transaction if none is open, takes the lock, and sets the locator. It makes no working value.
+-- What Lock does to its session: a transaction is open, and the locator is set. No working value is made.
 abbrev pub after_lock : Session → List ℕ → List ℕ → Value → Session
 after_lock p to row value = record (with_transaction p) { locators = with_entry p.locators to (lock_locator p row value) }
 
--- Lock in the table.
+-- Lock: what it does to its session, and the row's lock is the session's.
 abbrev pub lock_call : Table → ℕ → Session → List ℕ → List ℕ → Table × Reply
 lock_call t s p to row =
     let value = unwrap_or (row_value p (current_value t row) row) empty_value in
     refusal_or (lock_refusal t s p to row) t
     (record (with_session t s (after_lock p to row value)) { locks = with_lock t.locks s row }, Done)
 
--- Select: TooManyLocators, then NoSuchRow where the row's value is absent.
+-- Select: TooManyLocators where the locator can't be set, then NoSuchRow where the row's value is absent.
 abbrev pub select_refusal : Table → Session → List ℕ → List ℕ → Option Fault
 select_refusal t p to row = first_refusal (
     (lacks_room p to, fault.TooManyLocators)
     ∷ (is_none (row_value p (current_value t row) row), fault.NoSuchRow)
     ∷ [])
 
--- The locator has the row's value and the open transaction's number, or 0.
+-- What Select does to its session: the locator has the row's value and the open transaction's number, or 0.
 abbrev pub after_select : Session → List ℕ → List ℕ → Value → Session
 after_select p to row value = record p { locators = with_entry p.locators to (row_locator p row value (transaction_number p)) }
 
--- Select in the table. It takes no lock.
+-- Select takes no lock: the session's part alone changes.
 abbrev pub select_call : Table → ℕ → Session → List ℕ → List ℕ → Table × Reply
 select_call t s p to row =
     let value = unwrap_or (row_value p (current_value t row) row) empty_value in
     refusal_or (select_refusal t p to row) t (with_session t s (after_select p to row value), Done)
 
--- SelectAsOf: TooManyLocators, FutureCommit past the number of commits, TooOld below the floor, and NoSuchRow where
+-- SelectAsOf: TooManyLocators where the locator can't be set, FutureCommit past the number of commits, TooOld below the floor, and NoSuchRow where
 -- the row was absent then.
 abbrev pub select_as_of_refusal : Table → Session → List ℕ → List ℕ → ℕ → Option Fault
 select_as_of_refusal t p to row n = first_refusal (
@@ -105,7 +107,7 @@ select_as_of_refusal t p to row n = first_refusal (
     ∷ (is_none (value_at t row n), fault.NoSuchRow)
     ∷ [])
 
--- A locator of an old value: it has the number 0, is clean and read-only.
+-- A locator of an old value has the number 0, is clean and read-only.
 abbrev pub old_locator : Session → List ℕ → Value → Locator
 old_locator p row value = record {
   row = row;
@@ -117,11 +119,11 @@ old_locator p row value = record {
   is_read_only = true;
 }
 
--- It sets the locator, and changes nothing else.
+-- What SelectAsOf does to its session: the locator is set, and nothing else changes.
 abbrev pub after_select_as_of : Session → List ℕ → List ℕ → Value → Session
 after_select_as_of p to row value = record p { locators = with_entry p.locators to (old_locator p row value) }
 
--- SelectAsOf in the table.
+-- SelectAsOf: the row's value after the first n commits goes into the locator.
 abbrev pub select_as_of_call : Table → ℕ → Session → List ℕ → List ℕ → ℕ → Table × Reply
 select_as_of_call t s p to row n =
     let value = unwrap_or (value_at t row n) empty_value in

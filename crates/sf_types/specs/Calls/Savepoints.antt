@@ -1,4 +1,5 @@
--- Savepoints: Savepoint and RollbackTo.
+-- Savepoint and RollbackTo (after SAVEPOINT and ROLLBACK TO SAVEPOINT of SQL; limits, epochs and lost locators
+-- are our own).
 use Rattle.std.specs.Prelude.{ℕ, ◌+◌, ◌==◌, Bool, true, not, ◌&&◌, ◌||◌, nat_le, List, [], ◌∷◌, ◌++◌, map, filter, find, length, Option, is_none, unwrap_or, if◌then◌else◌}
 use Rattle.std.specs.List.{list_any}
 use Rattle.sf_types.specs.declared.reply.Fault.{Fault}
@@ -22,8 +23,8 @@ savepoint_refusal p name = first_refusal (
     (is_none (savepoint_named p name) && nat_le SESSION_SAVEPOINTS (length p.savepoints), fault.TooManySavepoints)
     ∷ [])
 
--- The epoch rises by one, the savepoint of that name is taken away, and a new one stands last, with that epoch, the
--- working values and the rows that the session has locked. It opens no transaction.
+-- What Savepoint does to its session: the epoch rises by one, the savepoint of that name is taken away, and a new one stands last, with that epoch, the
+-- working values and the rows that the session has locked. No transaction is opened.
 abbrev pub after_savepoint : Session → List (List ℕ) → List ℕ → Session
 after_savepoint p locked name = record p {
   epoch = p.epoch + 1;
@@ -39,20 +40,21 @@ savepoint_call p locked name = refusal_or (savepoint_refusal p name) p (after_sa
 abbrev pub lost_locator : Locator → Locator
 lost_locator l = record l { value = empty_value; is_lost = true }
 
--- The locators that pass a test become lost.
+-- Locators, of which those that pass a test are lost.
 abbrev pub with_losses : (Locator → Bool) → NameMap Locator → NameMap Locator
 with_losses is_gone locators = map (λ e. (e.0, if is_gone e.1 then lost_locator e.1 else e.1)) locators
 
--- A dirty locator whose epoch is at least a savepoint's.
+-- Whether a locator is dirty and its epoch is at least a savepoint's.
 abbrev pub is_since : Savepoint → Locator → Bool
 is_since x l = l.is_dirty && nat_le x.epoch l.epoch
 
--- The savepoints up to the one of a name, and it. Later ones are erased.
+-- The savepoints up to the one of a name, and that one. Later ones are erased.
 abbrev pub savepoints_up_to : List ℕ → List Savepoint → List Savepoint
 savepoints_up_to name [] = []
 savepoints_up_to name (x ∷ xs) = if is_same_name name x.name then x ∷ [] else x ∷ savepoints_up_to name xs
 
--- The session's part after it went back to a savepoint. The savepoint and the transaction stay.
+-- What RollbackTo does to its session: the working values are the savepoint's, dirty locators since then are lost, later
+-- savepoints go. The savepoint and the transaction stay.
 abbrev pub after_rollback_to : Session → Savepoint → Session
 after_rollback_to p x = record p {
   working = x.working;
@@ -60,11 +62,11 @@ after_rollback_to p x = record p {
   savepoints = savepoints_up_to x.name p.savepoints;
 }
 
--- The locks of a session on rows that a savepoint doesn't name are released.
+-- The locks without those of a session on rows that a savepoint doesn't name.
 abbrev pub without_later_locks : NameMap ℕ → ℕ → List (List ℕ) → NameMap ℕ
 without_later_locks locks s named = filter (λ e. not (e.1 == s) || list_any (is_same_name e.0) named) locks
 
--- The table after session s went back to a savepoint.
+-- The table after session s went back to a savepoint: locks taken since then are released.
 abbrev pub with_rollback_to : Table → ℕ → Session → Savepoint → Table
 with_rollback_to t s p x = record (with_session t s (after_rollback_to p x)) { locks = without_later_locks t.locks s x.locked }
 
@@ -76,7 +78,7 @@ no_savepoint = record { name = []; epoch = 0; working = []; locked = [] }
 abbrev pub rollback_to_refusal : Session → List ℕ → Option Fault
 rollback_to_refusal p name = first_refusal ((is_none (savepoint_named p name), fault.NoSavepoint) ∷ [])
 
--- RollbackTo in the table.
+-- RollbackTo answers Done where the session has a savepoint of that name.
 abbrev pub rollback_to_call : Table → ℕ → Session → List ℕ → Table × Reply
 rollback_to_call t s p name =
     let x = unwrap_or (savepoint_named p name) no_savepoint in

@@ -1,5 +1,5 @@
--- One call of a session that flushes nothing.
-use Rattle.std.specs.Prelude.{ℕ, Bool, true, false, List}
+-- One call of a session that flushes nothing: what it does, by cases on the call.
+use Rattle.std.specs.Prelude.{ℕ, List}
 use Rattle.sf_types.specs.declared.call.Call.{Call}
 use Rattle.sf_types.specs.declared.call.Call.TheVariants as call
 use Rattle.sf_types.specs.declared.reply.Reply.{Reply}
@@ -12,22 +12,11 @@ use Rattle.sf_types.specs.Calls.WritingCalls.{write_call}
 use Rattle.sf_types.specs.Calls.Savepoints.{savepoint_call, rollback_to_call}
 use Rattle.sf_types.specs.Calls.TransactionEnds.{commit_call, rollback_call, end_call}
 
--- The calls that are built today.
-abbrev pub has_step : Call → Bool
-has_step (call.Insert row) = true
-has_step (call.Lock to row) = true
-has_step (call.WriteAppend at bytes) = true
-has_step (call.Length at) = true
-has_step (call.Read at amount offset) = true
-has_step call.Commit = true
-has_step call.End = true
-has_step _ = false
-
--- What a call does to its session is put into the table. All else is as before.
+-- A call that changes its session's part alone.
 abbrev pub part_step : Table → ℕ → Session × Reply → Table × Reply
 part_step t s done = (with_session t s done.0, done.1)
 
--- A writing call in the table.
+-- A writing call changes its session's part alone.
 abbrev pub write_step : Table → ℕ → Session → List ℕ → Call → Table × Reply
 write_step t s p at c =
     let row = (locator p at).row in

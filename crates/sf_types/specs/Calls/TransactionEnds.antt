@@ -1,4 +1,5 @@
--- Transaction ends: Commit, Rollback and End.
+-- Transaction ends: Commit, Rollback and End (after COMMIT and ROLLBACK of SQL; retention by commits and End
+-- are our own).
 use Rattle.std.specs.Prelude.{ℕ, ◌+◌, ◌-◌, true, false, [], ◌∷◌, ◌++◌, map, max, if◌then◌else◌}
 use Rattle.sf_types.specs.declared.options.Options.{Options}
 use Rattle.sf_types.specs.declared.reply.Reply.{Reply}
@@ -9,11 +10,12 @@ use Rattle.sf_types.specs.Table.Sessions.{with_session, without_locks}
 use Rattle.sf_types.specs.Calls.Savepoints.{with_losses}
 use Rattle.sf_types.specs.Table.Versions.{commit_count}
 
--- At a commit the session's dirty locators become clean. A locator keeps its value.
+-- Locators, all of them clean. Each keeps its value.
 abbrev pub clean_locators : NameMap Locator → NameMap Locator
 clean_locators locators = map (λ e. (e.0, record e.1 { is_dirty = false })) locators
 
--- The session's part after its transaction was committed. All savepoints are erased.
+-- What Commit does to its session: no transaction and no working value is left, the locators are clean, and all savepoints
+-- are erased.
 abbrev pub after_commit : Session → Session
 after_commit p = record p { is_open = false; working = []; locators = clean_locators p.locators; savepoints = [] }
 
@@ -37,19 +39,19 @@ commit_call t s p =
     then (with_commit t s p, Committed (commit_count t + 1))
     else (with_session t s (record p { savepoints = [] }), Committed (commit_count t))
 
--- Rollback drops the working values, closes the transaction, and each dirty locator becomes lost. All savepoints are
--- erased, whether a transaction is open or not.
+-- What Rollback does to its session: no transaction and no working value is left, each dirty locator is lost, and all
+-- savepoints are erased, whether a transaction is open or not.
 abbrev pub after_rollback : Session → Session
 after_rollback p = record p { is_open = false; working = []; locators = with_losses (λ l. l.is_dirty) p.locators; savepoints = [] }
 
--- Rollback releases the locks, too, and answers that it is done.
+-- Rollback releases the session's locks, and answers Done.
 abbrev pub rollback_call : Table → ℕ → Session → Table × Reply
 rollback_call t s p = (record (with_session t s (after_rollback p)) { locks = without_locks t.locks s }, Done)
 
--- End drops the working values, closes the transaction, frees all locators and erases all savepoints.
+-- What End does to its session: no transaction, working value, locator or savepoint is left, and the session has ended.
 abbrev pub after_end : Session → Session
 after_end p = record p { is_open = false; working = []; locators = []; savepoints = []; has_ended = true }
 
--- End releases the locks, too, and answers so.
+-- End releases the session's locks, and answers Ended.
 abbrev pub end_call : Table → ℕ → Session → Table × Reply
 end_call t s p = (record (with_session t s (after_end p)) { locks = without_locks t.locks s }, Ended)

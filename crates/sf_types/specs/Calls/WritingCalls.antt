@@ -1,6 +1,6 @@
--- Writing calls: Write, WriteAppend, Append, Copy, Erase, Trim, the four fragment calls and SetOptions. What such a call
--- does is a function of the session's own part, of whether it holds the lock of the locator's row, and of what that row
--- holds.
+-- Writing calls: WRITE, WRITEAPPEND, APPEND, COPY, ERASE, TRIM, the four FRAGMENT calls and SETOPTIONS of DBMS_LOB. What
+-- such a call does is a function of the session's own part, of whether it holds the lock of the locator's row, and of what
+-- that row holds. (The order of refusals and what SETOPTIONS turns on or off are our own.)
 use Rattle.std.specs.Prelude.{ℕ, ◌==◌, Bool, true, not, ◌&&◌, List, [], ◌∷◌, ◌++◌, Option, Some, None, is_none, unwrap_or, if◌then◌else◌}
 use Rattle.std.specs.Option.{option_map_or}
 use Rattle.sf_types.specs.declared.call.Call.{Call}
@@ -20,7 +20,7 @@ use Rattle.sf_types.specs.Table.Sessions.{transaction_number, row_value}
 use Rattle.sf_types.specs.Calls.LocatorCalls.{locator, locator_refusals}
 use Rattle.sf_types.specs.Calls.Refusals.{first_refusal, refusal_or}
 
--- The locator through which a call writes, or none where it is no writing call.
+-- The name of the locator through which a call writes, or none where it is no writing call.
 abbrev pub written_name : Call → Option (List ℕ)
 written_name (call.Write at offset buffer) = Some at
 written_name (call.WriteAppend at buffer) = Some at
@@ -35,13 +35,13 @@ written_name (call.FragReplace at old_amount offset buffer) = Some at
 written_name (call.SetOptions at share) = Some at
 written_name _ = None
 
--- The source locator of Append and Copy.
+-- The name of the source locator of Append and Copy.
 abbrev pub source_name : Call → Option (List ℕ)
 source_name (call.Append at from) = Some from
 source_name (call.Copy at from amount to_offset from_offset) = Some from
 source_name _ = None
 
--- The locators that a writing call names, the written one first.
+-- The names of the locators that a writing call names, the written one first.
 abbrev pub names_in : List ℕ → Call → List (List ℕ)
 names_in at c = at ∷ option_map_or (λ from. from ∷ []) (source_name c) []
 
@@ -67,7 +67,8 @@ writing_refusals p is_held current at names =
 abbrev pub old_value : Session → Option Value → List ℕ → Value
 old_value p current at = unwrap_or (row_value p current (locator p at).row) empty_value
 
--- The edit of each writing call. Bytes from a buffer are fresh; padding and erased bytes are zero.
+-- The bytes that each writing call makes of a value's and its source's. Bytes of a buffer are fresh; padding and erased
+-- bytes are zero.
 abbrev pub result_bytes : Call → List Marked → List Marked → List Marked
 result_bytes (call.Write at offset buffer) v source = edits.put zero_byte v offset (fresh_bytes buffer)
 result_bytes (call.WriteAppend at buffer) v source = v ++ fresh_bytes buffer
@@ -82,7 +83,7 @@ result_bytes (call.FragMove at amount from_offset to_offset) v source = edits.mo
 result_bytes (call.FragReplace at old_amount offset buffer) v source = edits.replace v old_amount offset (fresh_bytes buffer)
 result_bytes _ v source = v
 
--- SetOptions makes the choice Share for `on` and Keep for `off`. Every other call keeps the choice.
+-- The choice after a call: SetOptions makes it Share for `on` and Keep for `off`, and every other call keeps it.
 abbrev pub result_choice : Call → Choice → Choice
 result_choice (call.SetOptions at share) before = if share then choice.Share else choice.Keep
 result_choice _ before = before
@@ -91,7 +92,7 @@ result_choice _ before = before
 abbrev pub result_value : Call → Value → Value → Value
 result_value c value source = record { bytes = result_bytes c value.bytes source.bytes; choice = result_choice c value.choice }
 
--- Erase answers how many bytes it erased, every other writing call Done.
+-- The reply to a writing call that is done: Erase answers how many bytes it erased, every other call Done.
 abbrev pub write_reply : Call → Value → Reply
 write_reply (call.Erase at amount offset) value = reply.Number (edits.erased_count value.bytes amount offset)
 write_reply _ value = reply.Done
@@ -111,7 +112,7 @@ abbrev pub written_locator : Session → Locator → Value → Locator
 written_locator p l value =
     record l { value = value; transaction = transaction_number p; epoch = p.epoch; is_dirty = true }
 
--- The result is the working value of the locator's row, and the locator's own.
+-- What a writing call does to its session: the result is the working value of the locator's row, and the locator's own.
 abbrev pub after_write : Session → List ℕ → Value → Session
 after_write p at value = record p {
   working = with_entry p.working (locator p at).row (Some value);

@@ -1,4 +1,4 @@
--- Births are numbers from 1, and a list of them rises.
+-- Rising lists of births, which are numbers from 1.
 use Rattle.std.specs.Prelude.{ℕ, ◌<◌, ◌==◌, nat_lt, List, [], ◌∷◌, if◌then◌else◌}
 
 -- A birth is less than all of a list.

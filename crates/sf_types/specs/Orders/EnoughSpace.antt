@@ -1,4 +1,4 @@
--- A capacity that is enough: what is said of it here is not proved yet.
+-- A capacity that is enough for a script's payloads (our own). What is said of it here is not proved yet.
 use Rattle.std.specs.Prelude.{◌≡◌, ℕ, ◌+◌, ◌≤◌, Bool, true, false, List, map, length, sum, flat_map, Contains, is_some, if◌then◌else◌}
 use Rattle.std.specs.List.{list_any}
 use Rattle.sf_types.specs.declared.call.Call.{Call}

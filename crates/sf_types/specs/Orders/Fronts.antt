@@ -1,4 +1,4 @@
--- Fronts of sessions.
+-- Fronts of sessions: what a session has seen of the history (our own).
 use Rattle.std.specs.Prelude.{◌≡◌, ℕ, ◌==◌, List, ◌++◌, filter}
 use Rattle.sf_types.specs.declared.history.Entry.{Entry}
 

@@ -1,4 +1,4 @@
--- Which entries are legal, what they do, runs, and whole orders.
+-- Which entries are legal, what they do, the runs of histories, and whole orders (our own).
 use Rattle.std.specs.Prelude.{◌≡◌, ℕ, ◌==◌, Bool, true, false, IsTrue, List, [], ◌∷◌, ◌++◌, map, filter_map, length, Option, Some, None, option_map, if◌then◌else◌}
 use Rattle.std.specs.List.{list_any, range_with_len}
 use Rattle.sf_types.specs.declared.call.Call.{Call}
@@ -42,18 +42,18 @@ abbrev pub call_effect : Option Promise → Table → ℕ → Call → Table × 
 call_effect None t s c = step t s c
 call_effect (Some p) t s c = publish t s c
 
--- What is told of a call that ended.
+-- The table and the reply of a call that ended.
 abbrev pub with_reply : Table × Reply → Table × Option Reply
 with_reply done = (done.0, Some done.1)
 
--- An entry's step: the table after it, and the reply where it ends its call. A promise that is granted and a cancel end
--- none; a promise that is refused ends its call.
+-- An entry's effect by its parts: the table after the entry, and the reply where it ends its call. A promise that is
+-- granted and a cancel end none; a promise that is refused ends its call.
 abbrev pub entry_effect : Table → ℕ → Kind → Call → Table × Option Reply
 entry_effect t s kind.Call c = with_reply (call_effect (session_of t s).promise t s c)
 entry_effect t s kind.Promise c = promise t s c
 entry_effect t s kind.Cancel c = (cancel t s, None)
 
--- The same of an entry.
+-- An entry's effect on a table, by its token and its call.
 abbrev pub effect_of : Table → Entry → Table × Option Reply
 effect_of t e = entry_effect t e.token.session e.token.kind e.call
 
@@ -62,12 +62,12 @@ abbrev pub table_after : Table → List Entry → Table
 table_after t [] = t
 table_after t (e ∷ es) = table_after (effect_of t e).0 es
 
--- What these entries tell, each with its session's number.
+-- The replies of entries that follow one another, each with its session's number, and none where the entry ended no call.
 abbrev pub replies_from : Table → List Entry → List (ℕ × Option Reply)
 replies_from t [] = []
 replies_from t (e ∷ es) = (e.token.session, (effect_of t e).1) ∷ replies_from (effect_of t e).0 es
 
--- A reply that was told, where it is this session's.
+-- A reply of an entry, where the entry is of this session.
 abbrev pub reply_to : ℕ → ℕ × Option Reply → Option Reply
 reply_to s (n, answer) = if n == s then answer else None
 
@@ -75,12 +75,11 @@ reply_to s (n, answer) = if n == s then answer else None
 abbrev pub replies_to : ℕ → List (ℕ × Option Reply) → List Reply
 replies_to s answers = filter_map (reply_to s) answers
 
--- A run: the entries applied from the opening table of a store on. It gives the final table, and the reply of each call
--- that ended.
+-- The table at the end of a run: the entries of a history, applied from the opening table of a store on.
 abbrev pub history_table : Options → ℕ → List Entry → Table
 history_table options sessions history = table_after (opening_table options sessions) history
 
--- The replies to one session's calls in a run.
+-- The replies to one session's calls in the run of a history.
 abbrev pub history_replies : Options → ℕ → List Entry → ℕ → List Reply
 history_replies options sessions history s = replies_to s (replies_from (opening_table options sessions) history)
 

@@ -1,4 +1,4 @@
--- What is told of a row that is present at the end.
+-- What a transcript tells of the rows that are present at the end (our own; the digest is that of FIPS 180-4).
 use Rattle.std.specs.Prelude.{ℕ, List, map}
 use Rattle.sha2.specs.Sha256.{sha256}
 use Rattle.sf_types.specs.declared.row_end.RowEnd.{RowEnd}
@@ -7,7 +7,7 @@ use Rattle.sf_types.specs.Values.Marks.{Value, strip, size_of}
 use Rattle.sf_types.specs.Table.Parts.{Table}
 use Rattle.sf_types.specs.Table.Versions.{present_rows}
 
--- Its name, its length and the digest of its bytes.
+-- A row that is present: its name, its length and the digest of its bytes.
 abbrev pub row_end : List ℕ × Value → RowEnd
 row_end (name, value) = record { name = name; len = size_of value; sum = sha256 (strip value) }
 

@@ -1,4 +1,4 @@
--- The text of each reply.
+-- The text of each reply (our own; the digest is that of FIPS 180-4).
 use Rattle.std.specs.Prelude.{ℕ, Bool, true, false, nat_le, List, [], ◌++◌, length, codes, if◌then◌else◌}
 use Rattle.std.specs.Fmt.{decimal}
 use Rattle.hex.specs.Hex.{encode_lower}

@@ -1,4 +1,4 @@
--- The lines of a transcript, and right transcripts.
+-- The lines of a transcript, and right transcripts (our own; the digests are those of FIPS 180-4).
 use Rattle.std.specs.Prelude.{◌≡◌, ℕ, ◌+◌, ◌-◌, List, [], ◌∷◌, ◌++◌, map, length, codes, sum_by, All, flat_map}
 use Rattle.std.specs.List.{range_with_len, join_by}
 use Rattle.std.specs.Option.{option_map_or}
@@ -81,7 +81,7 @@ whole_transcript order replies places free rows commit_count =
     ++ flat_map row_line rows
     ++ line (codes "commit_count " ++ decimal commit_count)
 
--- What is told of a birth's content: its length and its digest, at the runs where it stands.
+-- The place of a birth at some runs: with its content's length and digest.
 abbrev pub place_of_birth : Table → ℕ → List Run → Place
 place_of_birth t birth runs =
     let bytes = option_map_or (λ x. x.bytes) (content_of t.contents birth) [] in
@@ -91,7 +91,7 @@ place_of_birth t birth runs =
 abbrev pub birth_blocks : Place → Placed
 birth_blocks place = record { birth = place.birth; blocks = blocks_in place.runs }
 
--- The blocks of all places.
+-- The number of blocks of all places.
 abbrev pub placed_block_count : List Place → ℕ
 placed_block_count places = sum_by (λ place. length (blocks_in place.runs)) places
 
@@ -106,7 +106,7 @@ pub record IsRight (options : Options) (calls : List (List Call)) (bytes : List 
   pub order : List Token
   pub whole : IsWhole options calls order
   pub places : List Place
-  pub told : All (λ place. place ≡ place_of_birth (history_table options (length calls) whole.history) place.birth place.runs) places
+  pub contents : All (λ place. place ≡ place_of_birth (history_table options (length calls) whole.history) place.birth place.runs) places
   pub runs : All (λ place. AreRuns place.runs) places
   pub safe : IsSafe (history_table options (length calls) whole.history) (map birth_blocks places)
   pub text : bytes ≡ whole_transcript order (all_replies options (length calls) whole.history) places

@@ -1,4 +1,4 @@
--- Which calls are due, and what they flush.
+-- Which calls are due, and what they flush (our own, after VLDB 2008).
 use Rattle.std.specs.Prelude.{ℕ, Bool, false, ◌&&◌, nat_le, nat_lt, List, [], ◌∷◌, Option, Some, is_none}
 use Rattle.std.specs.List.{list_any}
 use Rattle.std.specs.Option.{option_map_or}
@@ -39,14 +39,9 @@ abbrev pub is_due_by : Table → ℕ → Session → Call → Bool
 is_due_by t s p call.Commit = list_any (λ e. has_fresh e.1) p.working
 is_due_by t s p c = option_map_or (λ at. is_write_due t s p at c) (written_name c) false
 
--- Whether a call of session s is due. Today's `play` doesn't follow this rule yet, but `never_due` below.
+-- Whether a call of session s is due.
 abbrev pub is_due : Table → ℕ → Call → Bool
 is_due t s c = is_due_by t s (session_of t s) c
-
--- The rule of today's `play`, which gives out no contents and no blocks yet: no call is due. It goes when `play` has
--- blocks, and `is_due` stands in its place.
-abbrev pub never_due : Table → ℕ → Call → Bool
-never_due t s c = false
 
 -- What a due call flushes: a writing call its result, a Commit all working values.
 abbrev pub flush_of : Table → Session → Call → Rows

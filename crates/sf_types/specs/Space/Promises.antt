@@ -1,4 +1,4 @@
--- The first step of a due call: its promise, or the refusal for want of space.
+-- The first step of a due call: its promise, or the refusal for want of space (our own).
 use Rattle.std.specs.Prelude.{ℕ, ◌+◌, ◌-◌, Bool, false, ◌&&◌, ◌||◌, nat_le, List, [], ◌∷◌, length, find, filter_map, sum_by, bytes_eq, Option, Some, None, is_some, unwrap_or, if◌then◌else◌}
 use Rattle.std.specs.List.{list_any, range_with_len, last_or}
 use Rattle.std.specs.Option.{option_map_or}
@@ -58,7 +58,7 @@ with_floor t h = record t { floor = h }
 abbrev pub floor_candidates : Table → List ℕ
 floor_candidates t = if t.options.max then range_with_len t.floor (commit_count t + 1 - t.floor) else t.floor ∷ []
 
--- What a call wants in a table with another floor, and what is free there.
+-- The cuts of what a call flushes.
 abbrev pub flush_cuts : Table → ℕ → Call → List Cut
 flush_cuts t s c = cuts t.options (flush_of t (session_of t s) c)
 
@@ -70,8 +70,8 @@ wanted_blocks_at t of h = wanted_blocks t.contents (reach (with_floor t h)) of
 abbrev pub fits_at : Table → List Cut → ℕ → Bool
 fits_at t of h = nat_le (wanted_blocks_at t of h) (free_of (with_floor t h))
 
--- The least candidate at which the call fits becomes the floor, and the promise stands with the blocks that are wanted
--- there and the births that are found there.
+-- The table once a promise is granted at a candidate: that is the floor, and the promise stands with the blocks that are
+-- wanted there and the births that are found there.
 abbrev pub table_with_promise : Table → ℕ → Call → List Cut → ℕ → Table
 table_with_promise t s c of h = with_session (with_floor t h) s (record (session_of t s) {
   promise = Some (record {
@@ -81,7 +81,7 @@ table_with_promise t s c of h = with_session (with_floor t h) s (record (session
   });
 })
 
--- Where it fits at none, the call ends with the two numbers of the last candidate, and nothing else changes.
+-- The refusal for want of space: the blocks that are wanted at a candidate, and those that are free there.
 abbrev pub no_space_at : Table → List Cut → ℕ → Reply
 no_space_at t of g = Refused (fault.NoSpace (wanted_blocks_at t of g) (free_of (with_floor t g)))
 
@@ -89,7 +89,8 @@ no_space_at t of g = Refused (fault.NoSpace (wanted_blocks_at t of g) (free_of (
 abbrev pub last_candidate : Table → ℕ
 last_candidate t = unwrap_or (last_or None (floor_candidates t)) t.floor
 
--- A promise is granted at a candidate, or refused at the last one.
+-- A promise is granted at the least candidate at which the call fits. Where it fits at none, the call is refused with the
+-- numbers of the last one, and nothing changes.
 abbrev pub promise_at : Table → ℕ → Call → List Cut → Option ℕ → Table × Option Reply
 promise_at t s c of (Some h) = (table_with_promise t s c of h, None)
 promise_at t s c of None = (t, Some (no_space_at t of (last_candidate t)))

@@ -1,4 +1,4 @@
--- The second step of a due call: its publication.
+-- The second step of a due call: its publication (our own).
 use Rattle.std.specs.Prelude.{ℕ, ◌+◌, List, [], ◌∷◌, ◌++◌, length, None, unwrap_or, if◌then◌else◌}
 use Rattle.std.specs.Option.{option_map_or}
 use Rattle.sf_types.specs.declared.call.Call.{Call}
@@ -74,7 +74,7 @@ publish_write t s p at c = (
   write_reply c (old_value p (current_value t (written_row p at)) at),
 )
 
--- A Commit done with the settled working values.
+-- A Commit that is done with the settled working values.
 abbrev pub publish_commit : Table → ℕ → Session → Table × Reply
 publish_commit t s p =
     let u = with_contents t s call.Commit in

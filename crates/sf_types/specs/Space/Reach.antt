@@ -1,4 +1,4 @@
--- Reach: the births that are still held.
+-- Reach: the births that are still held (our own, after VLDB 2008).
 use Rattle.std.specs.Prelude.{ℕ, ◌+◌, ◌-◌, Bool, ◌||◌, nat_lt, List, [], ◌∷◌, ◌++◌, map, take, drop, filter_map, flat_map, slice_index_or, Option, Some, None, is_none, if◌then◌else◌}
 use Rattle.std.specs.List.{range_with_len}
 use Rattle.std.specs.Option.{option_map_or}

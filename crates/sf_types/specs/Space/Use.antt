@@ -1,4 +1,4 @@
--- How many blocks are in use.
+-- How many blocks are in use (our own).
 use Rattle.std.specs.Prelude.{ℕ, ◌+◌, ◌-◌, List, length, sum_by, slice_get, Option}
 use Rattle.std.specs.Option.{option_map_or}
 use Rattle.sf_types.specs.Table.Parts.{Content, Session, Table}

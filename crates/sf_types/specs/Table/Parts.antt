@@ -1,4 +1,4 @@
--- The table: the plain state of a store, and nothing but it.
+-- The table: the plain state of a store, and nothing but it (our own).
 use Rattle.std.specs.Prelude.{ℕ, Bool, false, List, [], replicate, Option, None}
 use Rattle.sf_types.specs.declared.options.Options.{Options}
 use Rattle.sf_types.specs.declared.call.Call.{Call}

@@ -1,4 +1,5 @@
--- The sessions of a table, their transactions and their locks.
+-- The sessions of a table, their transactions and their locks (after the SecureFiles and Large Objects Developer's Guide;
+-- the limit of locators is our own).
 use Rattle.std.specs.Prelude.{ℕ, ◌+◌, ◌-◌, ◌==◌, Bool, true, false, not, ◌&&◌, nat_le, List, length, map, filter, slice_get, slice_set, Option, unwrap_or, if◌then◌else◌}
 use Rattle.std.specs.Option.{option_map_or}
 use Rattle.sf_types.specs.declared.limits.TheConstants.{SESSION_LOCATORS}
@@ -34,7 +35,7 @@ row_value p current row = unwrap_or (get p.working row) current
 abbrev pub holds_lock : NameMap ℕ → ℕ → List ℕ → Bool
 holds_lock locks s row = option_map_or (λ holder. holder == s) (get locks row) false
 
--- Whether another session holds it.
+-- Whether another session than this one holds the row's lock.
 abbrev pub is_busy : NameMap ℕ → ℕ → List ℕ → Bool
 is_busy locks s row = option_map_or (λ holder. not (holder == s)) (get locks row) false
 

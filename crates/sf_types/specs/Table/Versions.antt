@@ -1,21 +1,21 @@
--- What rows hold after some commits.
+-- What rows hold after some commits (our own).
 use Rattle.std.specs.Prelude.{ℕ, List, [], ◌∷◌, take, length, Option, Some, None}
 use Rattle.std.specs.List.{filter_map}
 use Rattle.sf_types.specs.Inside.NameMaps.{NameMap, get, with_entry}
 use Rattle.sf_types.specs.Values.Marks.{Value}
 use Rattle.sf_types.specs.Table.Parts.{Rows, Table}
 
--- A value that is said, or absent where nothing is said.
+-- A change gives a row a value or makes it absent. Without a change the row is absent.
 abbrev pub value_or_absent : Option (Option Value) → Option Value
 value_or_absent None = None
 value_or_absent (Some change) = change
 
--- The later of two sayings.
+-- The later of two changes, where there is one.
 abbrev pub later_change : Option (Option Value) → Option (Option Value) → Option (Option Value)
 later_change earlier None = earlier
 later_change earlier (Some change) = Some change
 
--- What the last of some commits that name a row says of it, or nothing where none names it.
+-- The change that the last of some commits to name a row makes, or none where none names it.
 abbrev pub last_change : List Rows → List ℕ → Option (Option Value)
 last_change [] name = None
 last_change (c ∷ cs) name = later_change (get c name) (last_change cs name)

@@ -1,4 +1,4 @@
--- Marked bytes, and the values of rows.
+-- Marked bytes, and the values of rows (our own, after VLDB 2008).
 use Rattle.std.specs.Prelude.{ℕ, Bool, true, false, List, [], map, length, filter, filter_map, Option, Some, None}
 use Rattle.sf_types.specs.declared.options.Choice.{Choice}
 use Rattle.sf_types.specs.declared.options.Choice.TheVariants as choice

@@ -1,4 +1,4 @@
--- Names of rows, of locators and of savepoints.
+-- Names of rows, of locators and of savepoints (our own).
 use Rattle.std.specs.Prelude.{ℕ, Bool, ◌&&◌, ◌||◌, ◌==◌, nat_le, List, length, Option, Some, None, if◌then◌else◌}
 use Rattle.std.specs.List.{list_all}
 use Rattle.std.specs.declared.cmp.Ordering.{Ordering}
@@ -14,7 +14,7 @@ abbrev pub is_name_byte : ℕ → Bool
 is_name_byte c =
     is_between 65 90 c || is_between 97 122 c || is_between 48 57 c || c == 95 || c == 46 || c == 45
 
--- It has at least one of these bytes, and at most `most`.
+-- A name has at least one byte and at most `most`, and each may stand in a name.
 abbrev pub is_name : ℕ → List ℕ → Bool
 is_name most text = nat_le 1 (length text) && nat_le (length text) most && list_all is_name_byte text
 

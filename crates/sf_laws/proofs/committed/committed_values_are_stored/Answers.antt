@@ -1,4 +1,4 @@
-use Rattle.sf_laws.proofs.Commits.{entry-stored}
+use Rattle.sf_laws.proofs.CommitLemmas.{entry-stored}
 use Rattle.sf_laws.proofs.committed.committed_values_are_stored.Goals as goal
 
 pub returns-clause-kept : goal.returns-clause-kept

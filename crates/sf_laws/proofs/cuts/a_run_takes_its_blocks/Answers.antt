@@ -1,4 +1,4 @@
-use Rattle.sf_laws.proofs.Runs.{run-blocks}
+use Rattle.sf_laws.proofs.StretchLemmas.{run-blocks}
 use Rattle.sf_laws.proofs.cuts.a_run_takes_its_blocks.Goals as goal
 
 pub returns : goal.returns

@@ -1,6 +1,6 @@
 use Rattle.std.proofs.Common.{ap, ◌∙◌}
 use Rattle.sf_types.specs.Space.Cuts.{segments_of}
-use Rattle.sf_laws.proofs.Runs.{segments-joined, segments_maximal, contents-joined, contents-sizes, unstored_bytes}
+use Rattle.sf_laws.proofs.StretchLemmas.{segments-joined, segments_maximal, contents-joined, contents-sizes, unstored_bytes}
 use Rattle.sf_laws.proofs.cuts.cuts_are_the_fresh_bytes.Goals as goal
 
 pub returns-clause-joined : goal.returns-clause-joined

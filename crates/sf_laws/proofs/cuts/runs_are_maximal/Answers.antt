@@ -1,4 +1,4 @@
-use Rattle.sf_laws.proofs.Runs.{segments-joined, segments_maximal}
+use Rattle.sf_laws.proofs.StretchLemmas.{segments-joined, segments_maximal}
 use Rattle.sf_laws.proofs.cuts.runs_are_maximal.Goals as goal
 
 pub returns-clause-joined : goal.returns-clause-joined

@@ -1,7 +1,7 @@
 use Rattle.std.proofs.Common.{length, ap, ◌∙◌}
 use Rattle.sf_types.specs.Values.Marks.{bytes_in}
 use Rattle.sf_types.specs.Space.Cuts.{segments_of}
-use Rattle.sf_laws.proofs.Runs.{segments-joined, segments_maximal, segments-bytes, segments-fresh}
+use Rattle.sf_laws.proofs.StretchLemmas.{segments-joined, segments_maximal, segments-bytes, segments-fresh}
 use Rattle.sf_laws.proofs.cuts.settling_keeps_the_bytes.Goals as goal
 
 pub returns-clause-bytes : goal.returns-clause-bytes

@@ -6,7 +6,7 @@ use Rattle.std.proofs.lemmas.List.Sorted.{IsPermutation-refl}
 use Rattle.sf_types.specs.Values.Marks.{Marked}
 use Rattle.sf_types.specs.Values.Edits.{move, move_front, move_back}
 use Rattle.sf_laws.specs.Splices.{IsSameOutside}
-use Rattle.sf_laws.proofs.Swaps.{swapped_permutation, swapped_outside, front-is, back-is}
+use Rattle.sf_laws.proofs.SwapLemmas.{swapped_permutation, swapped_outside, front-is, back-is}
 use Rattle.sf_laws.proofs.edits.move_permutes.Goals as goal
 
 -- which of the three a move is

@@ -5,7 +5,7 @@ use Rattle.sf_types.specs.Table.Parts.{Table}
 use Rattle.sf_types.specs.Table.Versions.{commit_count}
 use Rattle.sf_types.specs.Space.Cuts.{Cut}
 use Rattle.sf_types.specs.Space.Promises.{fits_at}
-use Rattle.sf_laws.proofs.Least.{IsLeastFrom, found-least, found-none, last-is}
+use Rattle.sf_laws.proofs.LeastLemmas.{IsLeastFrom, found-least, found-none, last-is}
 use Rattle.sf_laws.proofs.promises.the_least_floor_is_taken.Goals as goal
 
 -- the candidates, by the option max

@@ -2,7 +2,7 @@ use Rattle.std.proofs.Common.{◌≡◌, ℕ, ◌+◌, ◌-◌, ◌≤◌, ◌<�
 use Rattle.std.specs.Prelude.{find, unwrap_or}
 use Rattle.std.specs.List.{range_with_len}
 use Rattle.sf_types.specs.Calls.LocatorCalls.{matches_at}
-use Rattle.sf_laws.proofs.Least.{IsLeastFrom, found-least, found-none}
+use Rattle.sf_laws.proofs.LeastLemmas.{IsLeastFrom, found-least, found-none}
 use Rattle.sf_laws.proofs.promises.the_least_place_is_answered.Goals as goal
 
 -- what was looked for

@@ -1,8 +1,8 @@
 use Rattle.std.proofs.Common.{length}
 use Rattle.sf_types.specs.Space.Reach.{reach}
 use Rattle.sf_types.specs.Orders.Histories.{effect_of}
-use Rattle.sf_laws.proofs.Each.{each_contained}
-use Rattle.sf_laws.proofs.NewBirths.{IsOldOrNew, old-or-new}
+use Rattle.sf_laws.proofs.EachLemmas.{each_contained}
+use Rattle.sf_laws.proofs.NewBirthLemmas.{IsOldOrNew, old-or-new}
 use Rattle.sf_laws.proofs.reach.births_that_left_stay_away.Goals as goal
 
 pub returns : goal.returns

@@ -1,4 +1,4 @@
-use Rattle.sf_laws.proofs.KeptVersions.{kept_of, since_of}
+use Rattle.sf_laws.proofs.KeptVersionLemmas.{kept_of, since_of}
 use Rattle.sf_laws.proofs.reach.kept_versions_are_the_values_since_the_floor.Goals as goal
 
 pub returns-clause-kept : goal.returns-clause-kept

@@ -5,9 +5,9 @@ use Rattle.sf_types.specs.Values.Marks.{births_in}
 use Rattle.sf_types.specs.Table.Parts.{Table}
 use Rattle.sf_types.specs.Space.Reach.{reach, session_values}
 use Rattle.sf_laws.specs.TrueMarks.{found_by}
-use Rattle.sf_laws.proofs.Each.{each_contained, each_itself}
-use Rattle.sf_laws.proofs.Held.{OfOption, OfSession, of_at}
-use Rattle.sf_laws.proofs.Reached.{OfBirth, OfHeld, each_from_reach, each-births_in, each-session_values}
+use Rattle.sf_laws.proofs.EachLemmas.{each_contained, each_itself}
+use Rattle.sf_laws.proofs.HeldLemmas.{OfOption, OfSession, of_at}
+use Rattle.sf_laws.proofs.ReachLemmas.{OfBirth, OfHeld, each_from_reach, each-births_in, each-session_values}
 use Rattle.sf_laws.proofs.reach.what_occurs_is_in_reach.Goals as goal
 
 -- each birth that the table holds is in reach

@@ -1,4 +1,4 @@
-use Rattle.sf_types.proofs.RefusedCalls.{entry_refused}
+use Rattle.sf_types.proofs.RefusalLemmas.{entry_refused}
 use Rattle.sf_laws.proofs.refusals.a_refused_entry_changes_nothing.Goals as goal
 
 pub returns : goal.returns

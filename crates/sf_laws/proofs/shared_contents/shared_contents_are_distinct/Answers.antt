@@ -1,5 +1,5 @@
 use Rattle.sf_types.specs.Table.Parts.{opening_table}
-use Rattle.sf_laws.proofs.DistinctSteps.{distinct_opening, distinct_entry, distinct_run}
+use Rattle.sf_laws.proofs.DistinctStepLemmas.{distinct_opening, distinct_entry, distinct_run}
 use Rattle.sf_laws.proofs.shared_contents.shared_contents_are_distinct.Goals as goal
 
 pub returns-clause-opening : goal.returns-clause-opening

@@ -1,5 +1,5 @@
 use Rattle.sf_types.specs.Table.Parts.{opening_table}
-use Rattle.sf_laws.proofs.TrueSteps.{true_opening, true_after, true_run}
+use Rattle.sf_laws.proofs.TrueStepLemmas.{true_opening, true_after, true_run}
 use Rattle.sf_laws.proofs.true_marks.marks_are_true.Goals as goal
 
 pub returns-clause-opening : goal.returns-clause-opening

@@ -1,4 +1,4 @@
-use Rattle.sf_laws.proofs.UseSteps.{within_opening, within_entry, use_in_run}
+use Rattle.sf_laws.proofs.UseStepLemmas.{within_opening, within_entry, use_in_run}
 use Rattle.sf_laws.proofs.use_of_blocks.use_is_within_capacity.Goals as goal
 
 pub returns-clause-opening : goal.returns-clause-opening

@@ -1,6 +1,6 @@
 use Rattle.std.proofs.Common.{◌≡◌, take}
-use Rattle.std.specs.List.{flat_map}
+use Rattle.std.specs.List.{concat}
 use Rattle.sf_model.proofs.value.joined.Given as goal
 
 abbrev pub invariant-loop-piece : goal.invariant-loop-piece
-invariant-loop-piece l = l.bytes.items ≡ flat_map (λ piece. piece) (take l.piece-index l.pieces)
+invariant-loop-piece l = l.bytes.items ≡ concat (take l.piece-index l.pieces)

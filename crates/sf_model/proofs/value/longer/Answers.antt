@@ -1,5 +1,5 @@
 use Rattle.std.proofs.lemmas.List.{take_rest}
-use Rattle.sf_model.proofs.Pieces.{replaced}
+use Rattle.sf_model.proofs.PieceLemmas.{replaced}
 use Rattle.sf_model.proofs.value.longer.Goals as goal
 
 pub returns : goal.returns

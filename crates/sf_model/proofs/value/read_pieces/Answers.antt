@@ -1,5 +1,5 @@
 use Rattle.std.proofs.lemmas.List.{take_rest}
-use Rattle.sf_model.proofs.Pieces.{read_on}
+use Rattle.sf_model.proofs.PieceLemmas.{read_on}
 use Rattle.sf_model.proofs.value.read_pieces.Goals as goal
 
 pub loop-piece-preserved : goal.loop-piece-preserved

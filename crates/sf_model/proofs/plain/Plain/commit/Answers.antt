@@ -5,8 +5,8 @@ use Rattle.sf_types.specs.Table.Sessions.{session_of}
 use Rattle.sf_types.specs.Table.Versions.{later_change, commit_count}
 use Rattle.sf_types.specs.Calls.TransactionEnds.{after_commit, floor_after}
 use Rattle.sf_model.specs.contracts.plain.Plain.{the_view}
-use Rattle.sf_model.proofs.Indexed.{holds_after, holds_more}
-use Rattle.sf_model.proofs.Tables.{session_at, commit_none, commit_done}
+use Rattle.sf_model.proofs.IndexLemmas.{holds_after, holds_more}
+use Rattle.sf_model.proofs.TableLemmas.{session_at, commit_none, commit_done}
 use Rattle.sf_model.proofs.plain.Plain.commit.Goals as goal
 
 pub returns-then-not-is_open-clause-ok : goal.returns-then-not-is_open-clause-ok
@@ -21,8 +21,8 @@ invariant_of-self-2 c =
     let working = c.index_mut-part.result.now.working in
     let changes : c.in_ok-changes.changes.items ≡ working = c.in_ok-changes.ensures ∙ c.working.ensures in
     let commits : c.push.new.self.items ≡ old ++ working ∷ [] = c.in-Ok.ensures.items ∙ ap (λ (cs : List Rows). cs ++ c.commit.result ∷ []) c.reserve.ensures.items ∙ ap (λ (w : Rows). old ++ w ∷ []) c.commit.ensures.working in
-    let places = holds_after c.self.inside.current c.make_places.new.rows old c.make_places.ensures.same c.self.invariant in
-    rw commits (holds_more c.make_places.new.rows c.say_all.new.rows old working places (λ q. c.say_all.ensures q ∙ ap (λ (w : Rows). later_change (get c.make_places.new.rows q) (get w q)) changes))
+    let places = holds_after c.self.inside.current c.name_rows.new.rows old c.name_rows.ensures.same c.self.invariant in
+    rw commits (holds_more c.name_rows.new.rows c.apply_changes.new.rows old working places (λ q. c.apply_changes.ensures q ∙ ap (λ (w : Rows). later_change (get c.name_rows.new.rows q) (get w q)) changes))
 
 pub returns-clause-ok : goal.returns-clause-ok
 returns-clause-ok c =
@@ -35,4 +35,4 @@ returns-clause-ok c =
     let commits : c.push.new.self.items ≡ old ++ (session_of t s).working ∷ [] = c.in-Ok.ensures.items ∙ ap (λ (cs : List Rows). cs ++ c.commit.result ∷ []) c.reserve.ensures.items ∙ ap (λ (w : Rows). old ++ w ∷ []) (c.commit.ensures.working ∙ ap (λ p. p.working) part) in
     let count : c.len-count.result ≡ commit_count t + 1 = c.len-count.ensures ∙ c.in-Ok.ensures.len ∙ ap (λ n. n + 1) (c.reserve.ensures.len ∙ c.self.inside.commits.ok.0) in
     rw (← c.self.view_is)
-    (commit_done t s c.len-count.result c.floor_after-self-inside.result c.push.new.self.items c.release_all.new.locks c.commit.new.self opened commits count (c.floor_after-self-inside.ensures ∙ ap (floor_after t.options t.floor) count) c.release_all.ensures (c.commit.ensures.part ∙ ap after_commit part))
+    (commit_done t s c.len-count.result c.floor_after-self-inside.result c.push.new.self.items c.release_all.new.self c.commit.new.self opened commits count (c.floor_after-self-inside.ensures ∙ ap (floor_after t.options t.floor) count) c.release_all.ensures (c.commit.ensures.part ∙ ap after_commit part))

@@ -1,7 +1,7 @@
 use Rattle.std.proofs.Common.{ap, ◌∙◌}
 use Rattle.sf_types.specs.Calls.TransactionEnds.{after_end}
 use Rattle.sf_model.specs.contracts.plain.Plain.{the_view}
-use Rattle.sf_model.proofs.Tables.{session_at, end_done}
+use Rattle.sf_model.proofs.TableLemmas.{session_at, end_done}
 use Rattle.sf_model.proofs.plain.Plain.end.Goals as goal
 
 pub returns : goal.returns

@@ -1,7 +1,7 @@
 use Rattle.std.proofs.Common.{sym, ap, ◌∙◌}
 use Rattle.sf_types.specs.Calls.RowCalls.{after_insert}
 use Rattle.sf_model.specs.contracts.plain.Plain.{the_view}
-use Rattle.sf_model.proofs.Tables.{session_at, insert_done}
+use Rattle.sf_model.proofs.TableLemmas.{session_at, insert_done}
 use Rattle.sf_model.proofs.plain.Plain.insert.Goals as goal
 
 pub returns-clause-ok : goal.returns-clause-ok

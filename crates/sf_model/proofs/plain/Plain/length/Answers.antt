@@ -1,6 +1,6 @@
 use Rattle.sf_types.specs.Calls.LocatorCalls.{length_call}
 use Rattle.sf_types.specs.Table.Sessions.{session_of}
-use Rattle.sf_model.proofs.Tables.{put_own}
+use Rattle.sf_model.proofs.TableLemmas.{put_own}
 use Rattle.sf_model.proofs.plain.Plain.length.Goals as goal
 
 pub returns : goal.returns

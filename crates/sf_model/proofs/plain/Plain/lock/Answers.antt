@@ -3,7 +3,7 @@ use Rattle.sf_types.specs.Table.Sessions.{session_of, row_value, lacks_room}
 use Rattle.sf_types.specs.Calls.RowCalls.{after_lock}
 use Rattle.sf_types.specs.Table.Versions.{current_value}
 use Rattle.sf_model.specs.contracts.plain.Plain.{the_view}
-use Rattle.sf_model.proofs.Tables.{session_at, lock_done}
+use Rattle.sf_model.proofs.TableLemmas.{session_at, lock_done}
 use Rattle.sf_model.proofs.plain.Plain.lock.Goals as goal
 
 pub returns-clause-ok : goal.returns-clause-ok

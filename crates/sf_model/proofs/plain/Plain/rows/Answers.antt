@@ -1,6 +1,6 @@
 use Rattle.std.proofs.Common.{ap, ◌∙◌}
 use Rattle.sf_types.specs.Orders.RowEnds.{row_ends, row_ends_of}
-use Rattle.sf_model.proofs.Indexed.{present-index}
+use Rattle.sf_model.proofs.IndexLemmas.{present-index}
 use Rattle.sf_model.proofs.plain.Plain.rows.Goals as goal
 
 pub returns : goal.returns

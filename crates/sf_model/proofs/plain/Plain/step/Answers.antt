@@ -1,4 +1,4 @@
-use Rattle.sf_model.proofs.Tables.{call_left}
+use Rattle.sf_model.proofs.TableLemmas.{call_left}
 use Rattle.sf_model.proofs.plain.Plain.step.Goals as goal
 
 pub returns-clause-refused : goal.returns-clause-refused

@@ -8,7 +8,7 @@ use Rattle.sf_types.specs.Calls.LocatorCalls.{locator_named, locator}
 use Rattle.sf_types.specs.Calls.WritingCalls.{write_call}
 use Rattle.sf_types.specs.Table.Versions.{current_value}
 use Rattle.sf_model.specs.contracts.plain.Plain.{the_view}
-use Rattle.sf_model.proofs.Tables.{session_at, none_named, row_of_named, put_own, append_unknown, append_done_in}
+use Rattle.sf_model.proofs.TableLemmas.{session_at, none_named, row_of_named, put_own, append_unknown, append_done_in}
 use Rattle.sf_model.proofs.plain.Plain.write_append.Goals as goal
 
 pub returns-in_default-clause-ok : goal.returns-in_default-clause-ok
@@ -27,9 +27,9 @@ returns-clause-ok c =
     let t = the_view c.self.inside in
     let s = c.args.session in
     let row = c.in-Some.row in
-    let value = option_copied c.said_value-current.result in
+    let value = option_copied c.value_in-current.result in
     let has = rw (← c.self.view_is) at c.requires in
     let part = session_at t s c.index_mut-part.result.now has c.index_mut-part.ensures.value in
     let found = rw (← c.self.view_is) at (sym c.in_ok-row.ensures ∙ c.in-Some.is) in
     let done = c.in_ok-reply.ensures.ok ∙ ap (λ p. write_call p c.holds-is_held.result value c.args.at.now (WriteAppend c.args.at.now c.args.buffer.now)) part in
-    append_done_in c.args.self.now t s c.args.at.now c.args.buffer.now row c.holds-is_held.result value c.write_append.new.self c.in_ok-reply.reply c.self.view_is done c.holds-is_held.ensures (c.said_value-current.ensures ∙ c.self.invariant.same row) (row_of_named (locator_named (session_of t s) c.args.at.now) row found)
+    append_done_in c.args.self.now t s c.args.at.now c.args.buffer.now row c.holds-is_held.result value c.write_append.new.self c.in_ok-reply.reply c.self.view_is done c.holds-is_held.ensures (c.value_in-current.ensures ∙ c.self.invariant.same row) (row_of_named (locator_named (session_of t s) c.args.at.now) row found)

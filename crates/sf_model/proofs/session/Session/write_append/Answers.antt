@@ -7,7 +7,7 @@ use Rattle.sf_types.specs.declared.call.Call.TheVariants.{WriteAppend}
 use Rattle.sf_types.specs.Values.Marks.{size_of}
 use Rattle.sf_types.specs.Calls.Arguments.{argument_refusals}
 use Rattle.sf_types.specs.Calls.WritingCalls.{writing_refusals, old_value, source_value, result_of, after_write, names_in}
-use Rattle.sf_model.proofs.Refused.{first_of-append}
+use Rattle.sf_model.proofs.RefusalLemmas.{first_of-append}
 use Rattle.sf_model.proofs.session.Session.write_append.Goals as goal
 
 pub returns-in-Err-clause-ok : goal.returns-in-Err-clause-ok

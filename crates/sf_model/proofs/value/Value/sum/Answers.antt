@@ -1,5 +1,5 @@
 use Rattle.std.proofs.Common.{refl}
-use Rattle.sf_model.proofs.Marks.{bytes_of-fresh}
+use Rattle.sf_model.proofs.MarkLemmas.{bytes_of-fresh}
 use Rattle.sf_model.proofs.value.Value.sum.Goals as goal
 
 pub returns : goal.returns

@@ -1,6 +1,0 @@
-use Rattle.std.proofs.Common.{rules, not, eqb}
-use Rattle.std.proofs.lemmas.Map.Made.{filter_same_pairs}
-use Rattle.sf_model.proofs.plain.release_all.Goals as goal
-
-pub returns : goal.returns
-returns c = filter_same_pairs _ (λ e. not (eqb e.1 c.args.session)) _ (λ k v b w f' t. search rules) _ _ c.retain.ensures
