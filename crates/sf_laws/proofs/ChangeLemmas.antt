@@ -12,8 +12,9 @@ use Rattle.sf_types.specs.Calls.Steps.{step}
 use Rattle.sf_laws.proofs.EachLemmas.{each-set}
 use Rattle.sf_types.specs.Table.Versions.{commit_count}
 use Rattle.sf_laws.proofs.HeldStepLemmas.{floor_rises}
-use Rattle.sf_laws.proofs.StepCaseLemmas.{StepCases, by_cases, same_part}
+use Rattle.sf_laws.proofs.StepCaseLemmas.{StepCases, by_cases}
 use Rattle.sf_laws.proofs.PublishCaseLemmas.{by_publish_cases}
+use Rattle.sf_types.proofs.RefusalLemmas.{same_part}
 
 -- One session's part is changed, with this promise, and the contents are these.
 pub record IsChanged (t : Table) (s : ℕ) (promise : Option Promise) (given : List Content) (u : Table) : Type 0 where

@@ -23,7 +23,7 @@ use Rattle.sf_laws.proofs.ReachStepLemmas.{reach_stepped, reach_published, reach
 use Rattle.sf_laws.proofs.ChangeLemmas.{step_changed, publish_changed}
 use Rattle.sf_laws.proofs.EntryCaseLemmas.{EntryCases, by_entry_cases}
 use Rattle.sf_laws.proofs.TrueStepLemmas.{are_true, reach_given, true_after, true_opening}
-use Rattle.sf_laws.proofs.PositionLemmas.{get_last}
+use Rattle.sf_types.proofs.ListLemmas.{get_last}
 
 -- fewer births are distinct
 distinct_among : (contents : List Content) (more fewer : List ℕ) → AreDistinct contents more → Each (Contains more) fewer → AreDistinct contents fewer

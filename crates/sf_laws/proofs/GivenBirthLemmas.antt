@@ -14,8 +14,9 @@ use Rattle.sf_types.specs.Space.Publications.{content_of_cut, birth_for, content
 use Rattle.sf_laws.specs.TrueMarks.{IsGivenOut, bytes_of, HasTrueMark}
 use Rattle.sf_laws.proofs.EachLemmas.{each_weaker, each-append, each_left, each_found, each_itself, each_contained}
 use Rattle.sf_laws.proofs.SettleLemmas.{Paired}
-use Rattle.sf_laws.proofs.PositionLemmas.{get-append, get_last, at_drop}
-use Rattle.sf_laws.proofs.OptionLemmas.{and_first, and_second}
+use Rattle.sf_laws.proofs.PositionLemmas.{at_drop}
+use Rattle.sf_types.proofs.ListLemmas.{get-append, get_last}
+use Rattle.sf_types.proofs.BoolLemmas.{both_first, both_second}
 
 -- All births among which a further cut would be looked for.
 abbrev pub reached_after : List Content → List ℕ → List Cut → List ℕ
@@ -76,8 +77,8 @@ shared_at contents reached cut b (Some x) sharing within at is = record {
   within = within;
   content = x;
   at = at;
-  shared = and_first x.is_shared (bytes_eq x.bytes cut.bytes) is;
-  bytes = (bytes_eq-Decides x.bytes cut.bytes).0 (and_second x.is_shared (bytes_eq x.bytes cut.bytes) is);
+  shared = both_first x.is_shared (bytes_eq x.bytes cut.bytes) is;
+  bytes = (bytes_eq-Decides x.bytes cut.bytes).0 (both_second x.is_shared (bytes_eq x.bytes cut.bytes) is);
 }
 
 pub found_at : (contents : List Content) (reached : List ℕ) (cut : Cut) (b : ℕ) → found_birth contents reached cut ≡ Some b → IsFoundAt contents reached cut b

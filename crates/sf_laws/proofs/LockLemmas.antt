@@ -9,7 +9,7 @@ use Rattle.sf_types.specs.Inside.NameMaps.{NameMap, is_same_name, get, with_entr
 use Rattle.sf_types.proofs.NameMapLemmas.{same_name, get-put}
 use Rattle.sf_types.specs.Table.Sessions.{holds_lock, is_busy, with_lock, without_locks, locked_rows}
 use Rattle.sf_types.specs.Calls.Savepoints.{without_later_locks}
-use Rattle.sf_laws.proofs.OptionLemmas.{same_number, own_number, not_same, other_number}
+use Rattle.sf_types.proofs.NumberLemmas.{same_number, own_number, not_same, other_number}
 
 pub own_name : (name : List ℕ) → is_same_name name name ≡ true
 own_name name = rw (tied_itself nat_list_cmp_total name) refl

@@ -22,9 +22,11 @@ use Rattle.sf_laws.proofs.EachLemmas.{each_weaker, each_both, each-append, each-
 use Rattle.sf_laws.proofs.EntryLemmas.{each-put, each_get}
 use Rattle.sf_laws.proofs.HeldStepLemmas.{each-up_to}
 use Rattle.sf_laws.proofs.LockLemmas.{one_holder, takes_lock, stays_with_lock, stays_released, stays_released_since, stays_named, among_locked}
-use Rattle.sf_laws.proofs.StepCaseLemmas.{StepCases, by_cases, same_part, held_where_written}
+use Rattle.sf_laws.proofs.StepCaseLemmas.{StepCases, by_cases, held_where_written}
 use Rattle.sf_laws.proofs.PublishCaseLemmas.{PublishCases, by_publish_cases}
-use Rattle.sf_laws.proofs.OptionLemmas.{and_first, none_from}
+use Rattle.sf_laws.proofs.OptionLemmas.{none_from}
+use Rattle.sf_types.proofs.RefusalLemmas.{same_part}
+use Rattle.sf_types.proofs.BoolLemmas.{both_first}
 
 -- After an entry of session s its own part is locked, and of what the other sessions have locked nothing has changed.
 pub record IsLockedStep (t : Table) (s : ℕ) (u : Table) : Type 0 where
@@ -197,7 +199,7 @@ pub due_held : (t : Table) (s : ℕ) (p : Session) (c : Call) (at : List ℕ) �
 due_held t s p c at is due =
     let write_due : is_write_due t s p at c ≡ true = sym (due_where t s p c at is) ∙ due in
     held_where_written p (holds_lock t.locks s (written_row p at)) (current_value t (written_row p at)) at c
-    (none_from (writing_refusal p (holds_lock t.locks s (written_row p at)) (current_value t (written_row p at)) at c) (and_first (is_writable t s p at c) (nat_le t.options.gather (fresh_count (result_in t p at c))) write_due))
+    (none_from (writing_refusal p (holds_lock t.locks s (written_row p at)) (current_value t (written_row p at)) at c) (both_first (is_writable t s p at c) (nat_le t.options.gather (fresh_count (result_in t p at c))) write_due))
 
 publish_lock_cases : (t : Table) (s : ℕ) (c : Call) → HasLocked t.locks s (session_of t s) → is_due t s c ≡ true → PublishCases t s c (IsLockedStep t s)
 publish_lock_cases t s c own due =

@@ -14,15 +14,6 @@ get_set_other (x ∷ xs) zero (suc j) y apart = refl
 get_set_other (x ∷ xs) (suc i) zero y apart = refl
 get_set_other (x ∷ xs) (suc i) (suc j) y apart = get_set_other xs i j y (λ same. apart (ap (λ n. suc n) same))
 
-pub get-append : {X : Type 0} (xs ys : List X) (i : ℕ) → i < length xs → slice_get (xs ++ ys) i ≡ slice_get xs i
-get-append [] ys i lt = absurd (omega arith)
-get-append (x ∷ xs) ys zero lt = refl
-get-append (x ∷ xs) ys (suc i) lt = get-append xs ys i (omega arith)
-
-pub get_last : {X : Type 0} (xs : List X) (y : X) → slice_get (xs ++ y ∷ []) (length xs) ≡ Some y
-get_last [] y = refl
-get_last (x ∷ xs) y = get_last xs y
-
 -- the first item that is left, and the rest
 pub at_drop : {X : Type 0} (xs : List X) (i : ℕ) (y : X) (ys : List X) → drop i xs ≡ y ∷ ys → (slice_get xs i ≡ Some y) × (drop (i + 1) xs ≡ ys)
 at_drop [] zero y ys is = absurd cc

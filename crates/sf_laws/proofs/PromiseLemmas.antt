@@ -25,12 +25,12 @@ use Rattle.sf_laws.proofs.ChangeLemmas.{IsChanged}
 use Rattle.sf_laws.proofs.WantedLemmas.{wanted_falls}
 use Rattle.sf_laws.proofs.LockStepLemmas.{IsLockedStep, has_locked_on, due_held}
 use Rattle.sf_laws.proofs.PositionLemmas.{get_set, get_set_other}
-use Rattle.sf_laws.proofs.OptionLemmas.{same_number, not_same, from_one, place_within}
+use Rattle.sf_types.proofs.NumberLemmas.{same_number, not_same, from_one, one_less}
 
 pub own_session : (t u : Table) (s : ℕ) (part : Session) → IsTrue (has_session t s) → u.sessions ≡ slice_set t.sessions (s - 1) part → session_of u s ≡ part
 own_session t u s part has is =
     ap (λ (xs : List Session). unwrap_or (slice_get xs (s - 1)) new_session) is
-    ∙ ap (λ (o : Option Session). unwrap_or o new_session) (get_set t.sessions (s - 1) part (place_within s (length t.sessions) has))
+    ∙ ap (λ (o : Option Session). unwrap_or o new_session) (get_set t.sessions (s - 1) part (one_less s (length t.sessions) has))
 
 pub other_session : (t u : Table) (s r : ℕ) (part : Session) → IsTrue (has_session t s) → IsTrue (has_session t r) → (r ≡ s → ⊥) → u.sessions ≡ slice_set t.sessions (s - 1) part → session_of u r ≡ session_of t r
 other_session t u s r part has_s has_r apart is =
@@ -48,7 +48,7 @@ same_sessions t u s r part is has =
 pub sum_changed : (t u : Table) (s : ℕ) (promise : Option Promise) (contents : List Content) → IsTrue (has_session t s) → IsChanged t s promise contents u
     → sum_by promised_blocks u.sessions + promised_blocks (session_of t s) ≡ sum_by promised_blocks t.sessions + option_map_or (λ q. q.blocks) promise 0
 sum_changed t u s promise contents has changed =
-    let set = sum_by-set promised_blocks t.sessions (s - 1) changed.part new_session (place_within s (length t.sessions) has) in
+    let set = sum_by-set promised_blocks t.sessions (s - 1) changed.part new_session (one_less s (length t.sessions) has) in
     ap (λ (xs : List Session). sum_by promised_blocks xs + promised_blocks (session_of t s)) changed.sessions
     ∙ ap (λ (x : Session). sum_by promised_blocks (slice_set t.sessions (s - 1) changed.part) + promised_blocks x) (unwrap_or-slice_get t.sessions (s - 1) new_session)
     ∙ set

@@ -3,6 +3,7 @@ use Rattle.std.proofs.Common.{◌≡◌, ℕ, ◌+◌, ◌-◌, ◌≤◌, Bool,
 use Rattle.std.specs.Prelude.{is_some, is_none, unwrap_or, nat_lt, not, slice_set, bytes_eq}
 use Rattle.std.proofs.lemmas.Option.{unwrap_or-slice_get}
 use Rattle.std.proofs.lemmas.List.{set-get_or}
+use Rattle.sf_types.proofs.RefusalLemmas.{same_part}
 use Rattle.sf_types.specs.declared.call.Call.{Call}
 use Rattle.sf_types.specs.declared.call.Call.TheVariants as call
 use Rattle.sf_types.specs.declared.reply.Fault.{Fault}
@@ -23,7 +24,8 @@ use Rattle.sf_types.specs.Calls.WritingCalls.{names_in, source_value, spans_tran
 use Rattle.sf_types.specs.Calls.Savepoints.{savepoint_named, savepoint_refusal, after_savepoint, with_rollback_to, no_savepoint, rollback_to_refusal}
 use Rattle.sf_types.specs.Calls.TransactionEnds.{with_commit, after_rollback, after_end}
 use Rattle.sf_types.specs.Calls.Steps.{part_step, write_step, step}
-use Rattle.sf_laws.proofs.OptionLemmas.{not_not, not_less}
+use Rattle.sf_types.proofs.BoolLemmas.{not_not}
+use Rattle.sf_types.proofs.NumberLemmas.{not_less}
 
 -- Something holds of every table that a call of session s may leave.
 pub record StepCases (t : Table) (s : ℕ) (Q : Table → Type 0) : Type 0 where
@@ -42,12 +44,6 @@ pub record StepCases (t : Table) (s : ℕ) (Q : Table → Type 0) : Type 0 where
   pub erased : let p = session_of t s in Q (with_session t s (record p { savepoints = [] }))
   pub rolled_back : Q (record (with_session t s (after_rollback (session_of t s))) { locks = without_locks t.locks s })
   pub ended : Q (record (with_session t s (after_end (session_of t s))) { locks = without_locks t.locks s })
-
--- a session's own part put back
-pub same_part : (t : Table) (s : ℕ) → IsTrue (has_session t s) → with_session t s (session_of t s) ≡ t
-same_part t s has =
-    let own : session_of t s ≡ get_or t.sessions (s - 1) new_session = unwrap_or-slice_get t.sessions (s - 1) new_session in
-    ap (λ (xs : List Session). record t { sessions = xs }) (ap (slice_set t.sessions (s - 1)) own ∙ set-get_or t.sessions (s - 1) new_session)
 
 refused_table : (Q : Table → Type 0) (o : Option Fault) (t : Table) (done : Table × Reply) → Q t → (o ≡ None → Q done.0) → Q (refusal_or o t done).0
 refused_table Q None t done before after = after refl

@@ -5,7 +5,7 @@ use Rattle.std.specs.List.{AllByRecursion as Each}
 use Rattle.std.proofs.lemmas.List.Sums.{sum_by-cons}
 use Rattle.sf_types.specs.Inside.Births.{IsBelowAll, IsRising, with_birth, rising_births}
 use Rattle.sf_laws.proofs.EachLemmas.{each_weaker, each_contained, each_itself}
-use Rattle.sf_laws.proofs.OptionLemmas.{less, greater}
+use Rattle.sf_types.proofs.NumberLemmas.{less, greater}
 
 below_with : (a b : ℕ) (bs : List ℕ) → a < b → IsBelowAll a bs → IsBelowAll a (with_birth b bs)
 below_with a b [] lt below = (lt, tt)

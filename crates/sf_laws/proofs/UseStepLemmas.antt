@@ -30,7 +30,7 @@ use Rattle.sf_laws.proofs.SumLemmas.{rising_rises, sum_among}
 use Rattle.sf_laws.proofs.WantedLemmas.{wanted_falls, wanted_of_found, rises_after, published_blocks}
 use Rattle.sf_laws.proofs.LockStepLemmas.{IsLockedStep, lock_step, lock_publish}
 use Rattle.sf_laws.proofs.PromiseLemmas.{own_session, sum_changed, due_unmoved, due_promised, enough_from, locks_after, promises_after}
-use Rattle.sf_laws.proofs.OptionLemmas.{at_most}
+use Rattle.sf_types.proofs.NumberLemmas.{at_most}
 
 -- What is kept besides the truth of marks, and the options.
 record IsKept (options : Options) (u : Table) : Type 0 where

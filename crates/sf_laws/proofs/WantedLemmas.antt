@@ -18,8 +18,8 @@ use Rattle.sf_laws.specs.TrueMarks.{IsGivenOut}
 use Rattle.sf_laws.proofs.EachLemmas.{each_weaker, each_of_any, each_contained, each_itself, none_found, each_from_filter_map}
 use Rattle.sf_laws.proofs.GivenBirthLemmas.{reached_after, GoesOn, content_kept, given_more, given_with, IsFoundAt, found_at}
 use Rattle.sf_laws.proofs.ReachLemmas.{each_from_rising}
-use Rattle.sf_laws.proofs.OptionLemmas.{either}
-use Rattle.sf_laws.proofs.PositionLemmas.{get_last}
+use Rattle.sf_types.proofs.BoolLemmas.{either}
+use Rattle.sf_types.proofs.ListLemmas.{get_last}
 
 -- The blocks of a cut.
 abbrev pub cut_blocks : Cut → ℕ

@@ -34,9 +34,6 @@ keeps-put m k v = record {
 pub there-put : (m : Rows) (k : List ℕ) (v : Option Value) → IsTrue (has (with_entry m k v) k)
 there-put m k v = rw (get-put m k v k, tied_itself nat_list_cmp_total k) refl
 
-pub same_itself : (m : Rows) → KeepsValues m m
-same_itself m = record { same = λ q. refl }
-
 pub same_then : (a b c : Rows) → KeepsValues a b → KeepsValues b c → KeepsValues a c
 same_then a b c p q = record { same = λ n. q.same n ∙ p.same n }
 

@@ -13,14 +13,6 @@ nobody (Some h) s busy held = absurd (both (eqb h s) busy held)
     both true busy held = cc
     both false busy held = cc
 
--- a lock that was new is given back
-pub without-with_lock : (locks : NameMap ℕ) (s : ℕ) (row : List ℕ) → is_busy locks s row ≡ false → holds_lock locks s row ≡ false → without_entry (with_lock locks s row) row ≡ locks
-without-with_lock locks s row busy held = rw held (without-put locks row s (nobody (get locks row) s busy held))
-
--- one that was held already is kept
-pub with_lock-held : (locks : NameMap ℕ) (s : ℕ) (row : List ℕ) → holds_lock locks s row ≡ true → with_lock locks s row ≡ locks
-with_lock-held locks s row held = rw held refl
-
 -- either way the locks are as before
 pub undone : (locks : NameMap ℕ) (s : ℕ) (row : List ℕ) (is_new : Bool) → is_busy locks s row ≡ false → is_new ≡ not (holds_lock locks s row) → cond is_new (without_entry (with_lock locks s row) row) (with_lock locks s row) ≡ locks
 undone locks s row is_new busy is = by_held (holds_lock locks s row) refl

@@ -95,19 +95,6 @@ pub commit_done : (t : Table) (s n floor : ℕ) (commits : List Rows) (locks : N
     → ◌≡◌ {A = Table × Reply} (record (with_session t s p) { commits = commits; floor = floor; locks = locks }, reply.Committed n) (commit_call t s (session_of t s))
 commit_done t s n floor commits locks p opened commits-is n-is floor-is locks-is p-is = rw (p-is, commits-is, n-is, floor-is, locks-is, opened) refl
 
--- where no promise stands and no call is due, a call of a session that hasn't ended is legal, and nothing else is
-pub call_legal : (t : Table) (s : ℕ) (c : Call) → IsTrue (has_session t s) → (session_of t s).has_ended ≡ false → (session_of t s).promise ≡ None → IsLegalWhere false t s kind.Call c
-call_legal t s c has goes_on none = record { session = has; goes_on = goes_on; standing = rw none refl }
-
-pub promise_not_legal : (t : Table) (s : ℕ) (c : Call) → (session_of t s).promise ≡ None → IsLegalWhere false t s kind.Promise c → ⊥
-promise_not_legal t s c none legal = let due = rw none at legal.standing in cc
-
-pub cancel_not_legal : (t : Table) (s : ℕ) (c : Call) → (session_of t s).promise ≡ None → IsLegalWhere false t s kind.Cancel c → ⊥
-cancel_not_legal t s c none legal = rw none at legal.standing
-
-pub has_from : (s n : ℕ) → (s ≡ 0 → ⊥) → s ≤ n → IsTrue (nat_le 1 s && nat_le s n)
-has_from s n some le = grind (arith, nat_tests)
-
 -- a refused call leaves the table as it was
 pub call_left : (t u : Table) (s : ℕ) (c : Call) (r : Reply) (f : Fault) → IsTrue (has_session t s) → ◌≡◌ {A = Table × Reply} (u, r) (step t s c) → ◌≡◌ {A = Option Reply} (Some r) (Some (reply.Refused f)) → u ≡ t
 call_left t u s c r f has done is = ap (λ d. d.0) done ∙ step_refused t s c f has (ap (λ d. d.1) (sym done) ∙ some-is r (reply.Refused f) is)

@@ -1,8 +1,8 @@
-pub mod Cuts
-pub mod Decimal
-pub mod DraftSteps
-pub mod Follows
-pub mod HexDigits
-pub mod LineCuts
-pub mod Steps
-pub mod Turns
+pub mod CutLemmas
+pub mod DecimalLemmas
+pub mod DraftLemmas
+pub mod FollowLemmas
+pub mod HexLemmas
+pub mod LineLemmas
+pub mod StepLemmas
+pub mod TurnLemmas

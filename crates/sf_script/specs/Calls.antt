@@ -1,5 +1,6 @@
 -- How calls are spelled, from the first word of a call to its last.
 use Rattle.std.specs.Prelude.{ℕ, true, false, List, length, Option, Some, None, if◌then◌else◌, codes}
+use Rattle.sf_types.specs.declared.limits.TheConstants.{ROW_NAME_BYTES, LOCATOR_NAME_BYTES}
 use Rattle.sf_types.specs.Values.Names.{name_of}
 use Rattle.sf_types.specs.declared.call.Call.{Call}
 use Rattle.sf_types.specs.declared.call.Call.TheVariants as calls
@@ -24,22 +25,22 @@ call_with (wants.FragInsert at offset) bytes = calls.FragInsert at offset bytes
 call_with (wants.FragReplace at old_amount offset) bytes = calls.FragReplace at old_amount offset bytes
 
 -- The call that is spelled so.
-abbrev pub call_of : CallForm → Call
-call_of (Plain call) = call
-call_of (WithPayload call payload) = call_with call (bytes_of payload)
+abbrev pub spelled_call : CallForm → Call
+spelled_call (Plain call) = call
+spelled_call (WithPayload call payload) = call_with call (bytes_of payload)
 
 -- LOC as a word that a space ends.
 unfoldable pub loc_at : List ℕ → Option (List ℕ × List ℕ)
 loc_at text = do
   word ← word_at text
-  name ← name_of 16 word.0
+  name ← name_of LOCATOR_NAME_BYTES word.0
   Some (name, word.1)
 
 -- ROW as a word that a space ends.
 unfoldable pub row_at : List ℕ → Option (List ℕ × List ℕ)
 row_at text = do
   word ← word_at text
-  name ← name_of 64 word.0
+  name ← name_of ROW_NAME_BYTES word.0
   Some (name, word.1)
 
 -- A number as a word that a space ends.
@@ -52,27 +53,27 @@ number_at text = do
 -- ROW
 unfoldable pub insert_of : List ℕ → Option CallForm
 insert_of text = do
-  row ← name_of 64 text
+  row ← name_of ROW_NAME_BYTES text
   Some (Plain (calls.Insert row))
 
 -- ROW
 unfoldable pub delete_of : List ℕ → Option CallForm
 delete_of text = do
-  row ← name_of 64 text
+  row ← name_of ROW_NAME_BYTES text
   Some (Plain (calls.Delete row))
 
 -- LOC ROW
 unfoldable pub lock_of : List ℕ → Option CallForm
 lock_of text = do
   to ← loc_at text
-  row ← name_of 64 to.1
+  row ← name_of ROW_NAME_BYTES to.1
   Some (Plain (calls.Lock to.0 row))
 
 -- LOC ROW
 unfoldable pub select_of : List ℕ → Option CallForm
 select_of text = do
   to ← loc_at text
-  row ← name_of 64 to.1
+  row ← name_of ROW_NAME_BYTES to.1
   Some (Plain (calls.Select to.0 row))
 
 -- LOC ROW COMMIT
@@ -87,19 +88,19 @@ asof_of text = do
 unfoldable pub assign_of : List ℕ → Option CallForm
 assign_of text = do
   to ← loc_at text
-  from ← name_of 16 to.1
+  from ← name_of LOCATOR_NAME_BYTES to.1
   Some (Plain (calls.Assign to.0 from))
 
 -- LOC
 unfoldable pub free_of : List ℕ → Option CallForm
 free_of text = do
-  at ← name_of 16 text
+  at ← name_of LOCATOR_NAME_BYTES text
   Some (Plain (calls.Free at))
 
 -- LOC
 unfoldable pub length_of : List ℕ → Option CallForm
 length_of text = do
-  at ← name_of 16 text
+  at ← name_of LOCATOR_NAME_BYTES text
   Some (Plain (calls.Length at))
 
 -- LOC AMOUNT OFFSET
@@ -147,7 +148,7 @@ writeappend_of text = do
 unfoldable pub append_of : List ℕ → Option CallForm
 append_of text = do
   at ← loc_at text
-  from ← name_of 16 at.1
+  from ← name_of LOCATOR_NAME_BYTES at.1
   Some (Plain (calls.Append at.0 from))
 
 -- LOC FROM AMOUNT TOOFFSET FROMOFFSET
@@ -218,7 +219,7 @@ setoptions_of text = do
 -- NAME
 unfoldable pub savepoint_of : List ℕ → Option CallForm
 savepoint_of text = do
-  name ← name_of 16 text
+  name ← name_of LOCATOR_NAME_BYTES text
   Some (Plain (calls.Savepoint name))
 
 -- `to` NAME
@@ -226,5 +227,5 @@ unfoldable pub rollback_to_of : List ℕ → Option CallForm
 rollback_to_of text = do
   word ← word_at text
   if is_word (codes "to") word.0 then (do
-    name ← name_of 16 word.1
+    name ← name_of LOCATOR_NAME_BYTES word.1
     Some (Plain (calls.RollbackTo name))) else None

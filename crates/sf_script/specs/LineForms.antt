@@ -61,25 +61,3 @@ form_of reads.Nothing text = header_line text
 form_of reads.Header text = option_line text
 form_of (reads.Sessions parts) text =
     if is_word (codes "schedule") (first_word text) then schedule_line parts.sessions text else call_line parts.sessions text
-
--- Whether a call without a payload is built: `insert`, `lock`, `length`, `read` and `commit` are.
-abbrev pub is_built_plain : Call → Bool
-is_built_plain (calls.Insert row) = true
-is_built_plain (calls.Lock to row) = true
-is_built_plain (calls.Length at) = true
-is_built_plain (calls.Read at amount offset) = true
-is_built_plain calls.Commit = true
-is_built_plain _ = false
-
--- Whether a call is built. With a payload only `writeappend` of a text is.
-abbrev pub is_built_call : CallForm → Bool
-is_built_call (Plain call) = is_built_plain call
-is_built_call (WithPayload (wants.WriteAppend at) (Text bytes)) = true
-is_built_call _ = false
-
--- Whether a form is built: the header, `sessions 1` and the calls that are built.
-abbrev pub is_built : LineForm → Bool
-is_built HeaderLine = true
-is_built (SessionsLine number) = number == 1
-is_built (CallLine session form) = is_built_call form
-is_built _ = false

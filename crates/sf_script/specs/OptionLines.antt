@@ -1,5 +1,6 @@
 -- Option lines.
 use Rattle.std.specs.Prelude.{ℕ, Bool, true, false, ◌&&◌, ◌||◌, nat_le, List, Option, Some, None, if◌then◌else◌, codes}
+use Rattle.sf_types.specs.declared.limits.TheConstants.{STORE_BLOCKS, RETAINED_COMMITS, LEAST_GATHER_BYTES, MOST_GATHER_BYTES, STORE_DISPENSERS}
 use Rattle.sf_script.specs.Gives.{◌>>=◌}
 use Rattle.sf_script.specs.Numbers.{number_of}
 use Rattle.sf_script.specs.Words.{is_word}
@@ -39,9 +40,9 @@ option_of word text =
 
 -- Whether an option is set to a number in its range.
 abbrev pub is_option_in_range : OptionLine → Bool
-is_option_in_range (Capacity number) = nat_le 1 number && nat_le number 65536
+is_option_in_range (Capacity number) = nat_le 1 number && nat_le number STORE_BLOCKS
 is_option_in_range (Dedup shared) = true
-is_option_in_range (Retention number) = nat_le number 1000
+is_option_in_range (Retention number) = nat_le number RETAINED_COMMITS
 is_option_in_range RetentionMax = true
-is_option_in_range (Gather number) = nat_le 512 number && nat_le number 1048576
-is_option_in_range (Dispensers number) = nat_le 1 number && nat_le number 8
+is_option_in_range (Gather number) = nat_le LEAST_GATHER_BYTES number && nat_le number MOST_GATHER_BYTES
+is_option_in_range (Dispensers number) = nat_le 1 number && nat_le number STORE_DISPENSERS

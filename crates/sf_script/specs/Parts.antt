@@ -2,13 +2,13 @@
 use Rattle.std.specs.Prelude.{◌≡◌, ℕ, ◌≤◌, Bool, true, false, not, ◌&&◌, nat_le, List, length, IsTrue}
 use Rattle.std.specs.List.{list_all, sum_by}
 use Rattle.sf_types.specs.Limits.{IsInRange}
-use Rattle.sf_types.specs.Calls.Steps.{has_step}
 use Rattle.sf_types.specs.declared.options.Options.{Options}
 use Rattle.sf_types.specs.declared.call.Call.{Call}
 use Rattle.sf_types.specs.declared.call.Call.TheVariants as calls
 use Rattle.sf_script.specs.declared.turn.Turn.{Turn}
 use Rattle.sf_script.specs.declared.turn.Turn.TheVariants as turn_kinds
-use Rattle.sf_script.specs.Limits.{script_sessions}
+use Rattle.sf_types.specs.declared.limits.TheConstants.{STORE_SESSIONS}
+use Rattle.sf_script.specs.Provisional.Calls.{can_stand}
 
 -- The parts of a script: its options, the number of its sessions, the calls of each session without its End, and its schedule.
 pub record ScriptParts : Type 0 where
@@ -16,14 +16,6 @@ pub record ScriptParts : Type 0 where
   pub sessions : ℕ
   pub calls : List (List Call)
   pub turns : List Turn
-
-abbrev pub is_end : Call → Bool
-is_end calls.End = true
-is_end _ = false
-
--- A call that may stand in a script today: it has a step, and it is no End.
-abbrev pub can_stand : Call → Bool
-can_stand call = has_step call && not (is_end call)
 
 -- Whether a turn of a session names one of so many sessions.
 abbrev pub names_session : ℕ → Turn → Bool
@@ -34,7 +26,7 @@ names_session sessions _ = true
 pub record IsScript (parts : ScriptParts) : Type 0 where
   pub options : IsInRange parts.options
   pub sessions_low : 1 ≤ parts.sessions
-  pub sessions_high : parts.sessions ≤ script_sessions
+  pub sessions_high : parts.sessions ≤ STORE_SESSIONS
   pub one_list_each : length parts.calls ≡ parts.sessions
   pub stands : IsTrue (list_all (list_all can_stand) parts.calls)
   pub turns : IsTrue (list_all (names_session parts.sessions) parts.turns)

@@ -9,9 +9,11 @@ use Rattle.sf_script.specs.declared.fault.Reason.{Reason}
 use Rattle.sf_script.specs.declared.fault.Reason.TheVariants.{Bytes, Place, Session, Form, Later, Limit}
 use Rattle.sf_script.specs.declared.reading.Reading.{Reading}
 use Rattle.sf_script.specs.declared.reading.Reading.TheVariants as reads
-use Rattle.sf_script.specs.Calls.{call_of}
-use Rattle.sf_script.specs.Limits.{script_calls, script_payload_bytes, script_turns, script_sessions}
-use Rattle.sf_script.specs.LineForms.{LineForm, HeaderLine, SetsOption, SessionsLine, CallLine, ScheduleLine, form_of, is_built}
+use Rattle.sf_script.specs.Calls.{spelled_call}
+use Rattle.sf_script.specs.declared.limits.TheConstants.{SCRIPT_CALLS, SCRIPT_PAYLOAD_BYTES, SCRIPT_TURNS}
+use Rattle.sf_types.specs.declared.limits.TheConstants.{STORE_SESSIONS}
+use Rattle.sf_script.specs.LineForms.{LineForm, HeaderLine, SetsOption, SessionsLine, CallLine, ScheduleLine, form_of}
+use Rattle.sf_script.specs.Provisional.Forms.{is_built}
 use Rattle.sf_script.specs.Lines.{Line, is_line_byte}
 use Rattle.sf_script.specs.OptionLines.{is_option_word, is_option_in_range}
 use Rattle.sf_script.specs.Parts.{ScriptParts, payload_length, call_count, payload_bytes}
@@ -45,15 +47,15 @@ is_not_built reading text = option_map_or (λ form. not (is_built form)) (form_o
 -- A call's payload of so many bytes is too long, or with this call the script has too many calls or payload bytes.
 abbrev pub passes_call_limit : ScriptParts → ℕ → Bool
 passes_call_limit parts bytes =
-    nat_lt BUFFER_BYTES bytes || nat_lt script_calls (call_count parts.calls + 1) || nat_lt script_payload_bytes (payload_bytes parts.calls + bytes)
+    nat_lt BUFFER_BYTES bytes || nat_lt SCRIPT_CALLS (call_count parts.calls + 1) || nat_lt SCRIPT_PAYLOAD_BYTES (payload_bytes parts.calls + bytes)
 
 -- A form passes a limit: an option or the number of sessions is out of its range, or the calls, the payload bytes or the turns are too many.
 unfoldable pub form_passes_limit : Reading → LineForm → Bool
 form_passes_limit reading HeaderLine = false
 form_passes_limit reading (SetsOption option) = not (is_option_in_range option)
-form_passes_limit reading (SessionsLine number) = not (nat_le 1 number && nat_le number script_sessions)
-form_passes_limit (reads.Sessions parts) (CallLine session form) = passes_call_limit parts (payload_length (call_of form))
-form_passes_limit (reads.Sessions parts) (ScheduleLine turns) = nat_lt script_turns (length parts.turns + length turns)
+form_passes_limit reading (SessionsLine number) = not (nat_le 1 number && nat_le number STORE_SESSIONS)
+form_passes_limit (reads.Sessions parts) (CallLine session form) = passes_call_limit parts (payload_length (spelled_call form))
+form_passes_limit (reads.Sessions parts) (ScheduleLine turns) = nat_lt SCRIPT_TURNS (length parts.turns + length turns)
 form_passes_limit _ _ = false
 
 -- The line passes a limit.
@@ -88,7 +90,7 @@ with_call parts session call = record parts { calls = slice_set parts.calls (ses
 abbrev pub after_form : Reading → LineForm → Reading
 after_form reading HeaderLine = reads.Header
 after_form reading (SessionsLine number) = reads.Sessions (new_script number)
-after_form (reads.Sessions parts) (CallLine session form) = reads.Sessions (with_call parts session (call_of form))
+after_form (reads.Sessions parts) (CallLine session form) = reads.Sessions (with_call parts session (spelled_call form))
 after_form (reads.Sessions parts) (ScheduleLine turns) = reads.Sessions (record parts { turns = parts.turns ++ turns })
 after_form reading _ = reading
 

@@ -1,9 +1,9 @@
 //! Calls as they are spelled.
 ghost use Rattle.std.specs.Prelude.{◌≡◌, IfOk, IsTrue};
-ghost use Rattle.sf_script.specs.Calls.{call_with, call_of};
-ghost use Rattle.sf_script.specs.LineForms.{is_built_call};
+ghost use Rattle.sf_script.specs.Calls.{call_with, spelled_call};
+ghost use Rattle.sf_script.specs.Provisional.Forms.{is_built_call};
 ghost use Rattle.sf_script.specs.Parts.{payload_length};
-ghost use Rattle.sf_script.specs.Views.{call_view};
+ghost use Rattle.sf_script.specs.Inside.Views.{call_view};
 
 use crate::payload::{SpelledPayload, bytes_of, length_of};
 use sf_types::{Blob, Call, LocName, Mem};
@@ -83,7 +83,7 @@ pub fn payload_length(call: &Call) -> u64
 
 // The number of bytes of the payload of a call as it is spelled.
 pub fn spelled_length(call: &SpelledCall) -> u64
-    ensures { result ≡ payload_length (call_of (call_view call.now)) }
+    ensures { result ≡ payload_length (spelled_call (call_view call.now)) }
 {
     match call {
         SpelledCall::Plain(call) => payload_length(call),
@@ -92,9 +92,9 @@ pub fn spelled_length(call: &SpelledCall) -> u64
 }
 
 // The call that is spelled so.
-pub fn call_of(alloc: Global, call: SpelledCall) -> Mem<Call>
+pub fn spelled_call(alloc: Global, call: SpelledCall) -> Mem<Call>
     requires { IsTrue (is_built_call (call_view call)) }
-    ensures { IfOk result (λ made. made ≡ call_of (call_view call.entry)) }
+    ensures { IfOk result (λ made. made ≡ spelled_call (call_view call.entry)) }
 {
     match call {
         SpelledCall::Plain(call) => Ok(call),

@@ -2,7 +2,7 @@
 ghost use Rattle.std.specs.Prelude.{◌≡◌};
 ghost use Rattle.sf_script.specs.Calls.{insert_of, delete_of, lock_of, select_of, asof_of, assign_of, free_of, length_of, read_of, instr_of, compare_of, write_of, writeappend_of, append_of, copy_of, erase_of, trim_of, fraginsert_of, fragdelete_of, fragmove_of, fragreplace_of, savepoint_of, setoptions_of, rollback_to_of};
 ghost use Rattle.sf_script.specs.Gives.{Reads};
-ghost use Rattle.sf_script.specs.Views.{call_view};
+ghost use Rattle.sf_script.specs.Inside.Views.{call_view};
 
 use crate::call::{PayloadCall, SpelledCall};
 use crate::fault::{Reason, Stop};

@@ -2,7 +2,7 @@
 ghost use Rattle.std.specs.Prelude.{◌≡◌};
 ghost use Rattle.sf_script.specs.CallLines.{work_form, locator_form, part_form, payload_form, row_form, call_form};
 ghost use Rattle.sf_script.specs.Gives.{Reads};
-ghost use Rattle.sf_script.specs.Views.{call_view};
+ghost use Rattle.sf_script.specs.Inside.Views.{call_view};
 
 use crate::call::SpelledCall;
 use crate::call_forms::{

@@ -3,7 +3,7 @@ ghost use Rattle.std.specs.Prelude.{◌≡◌, not};
 ghost use Rattle.sf_script.specs.OptionLines.{is_option_word};
 ghost use Rattle.sf_script.specs.Reasons.{has_wrong_bytes, is_misplaced, names_no_session, form_passes_limit};
 ghost use Rattle.sf_script.specs.Schedules.{are_turns, schedule_words};
-ghost use Rattle.sf_script.specs.Views.{text_line, line_view};
+ghost use Rattle.sf_script.specs.Inside.Views.{text_line, line_view};
 
 use crate::call::spelled_length;
 use crate::line_form::SpelledLine;
@@ -11,6 +11,7 @@ use crate::lines::{TextLine, are_line_bytes};
 use crate::reading::Reading;
 use crate::schedule::{are_turns, ends_with_colon, session_of};
 use crate::words::{first_word, is_word, word_at};
+use sf_types::STORE_SESSIONS;
 
 // Whether a line isn't ended, or holds a byte that no line may hold.
 #[tactic(auto, unfolding(crate::specs::Reasons::has_wrong_bytes))]
@@ -78,7 +79,9 @@ pub fn passes_limit(reading: &Reading, line: &SpelledLine) -> bool
 {
     match line {
         SpelledLine::Header => false,
-        SpelledLine::Sessions(number) => !(1 <= *number && *number <= 16),
+        SpelledLine::Sessions(number) => {
+            !(1 <= *number && *number <= u64::from(STORE_SESSIONS))
+        },
         SpelledLine::Call(_, call) => match reading {
             Reading::Sessions(draft) => draft.has_no_room(spelled_length(call)),
             _ => false,

@@ -1,11 +1,12 @@
 //! The fields of a call line.
 ghost use Rattle.std.specs.Prelude.{◌≡◌};
+ghost use Rattle.sf_types.specs.declared.limits.TheConstants.{ROW_NAME_BYTES, LOCATOR_NAME_BYTES};
 ghost use Rattle.sf_types.specs.Values.Names.{name_of};
 ghost use Rattle.sf_script.specs.Calls.{loc_at, row_at, number_at};
 ghost use Rattle.sf_script.specs.Gives.{Reads};
 ghost use Rattle.sf_script.specs.Numbers.{number_of};
 ghost use Rattle.sf_script.specs.Payloads.{payload_of};
-ghost use Rattle.sf_script.specs.Views.{payload_view};
+ghost use Rattle.sf_script.specs.Inside.Views.{payload_view};
 ghost use Rattle.sf_script.specs.Words.{word_at};
 
 use crate::fault::{Reason, Stop};
@@ -26,7 +27,7 @@ pub fn word_at(text: &[u8]) -> Result<(&[u8], &[u8]), Stop>
 
 // A row's name.
 pub fn row_of(alloc: Global, text: &[u8]) -> Result<Name, Stop>
-    ensures { Reads (λ name. name) result (name_of 64 text.now) }
+    ensures { Reads (λ name. name) result (name_of ROW_NAME_BYTES text.now) }
 {
     match Name::new(alloc, text)? {
         Some(name) => Ok(name),
@@ -36,7 +37,7 @@ pub fn row_of(alloc: Global, text: &[u8]) -> Result<Name, Stop>
 
 // A locator's name.
 pub fn loc_of(alloc: Global, text: &[u8]) -> Result<LocName, Stop>
-    ensures { Reads (λ name. name) result (name_of 16 text.now) }
+    ensures { Reads (λ name. name) result (name_of LOCATOR_NAME_BYTES text.now) }
 {
     match LocName::new(alloc, text)? {
         Some(name) => Ok(name),

@@ -7,11 +7,13 @@ mod call_table;
 mod checks;
 mod fault;
 mod fields;
+mod limits;
 mod line_form;
 mod lines;
 mod number;
 mod parser;
 mod payload;
+mod provisional;
 mod reading;
 mod schedule;
 mod script;
@@ -19,9 +21,7 @@ mod turn;
 mod words;
 
 pub use fault::{Reason, ScriptFault};
+pub use limits::{SCRIPT_BYTES, SCRIPT_CALLS, SCRIPT_PAYLOAD_BYTES, SCRIPT_TURNS};
 pub use parser::parse;
-pub use script::{CallList, CallTable, Script, TurnList};
+pub use script::{Script, TurnList};
 pub use turn::Turn;
-
-#[cfg(test)]
-mod tests;

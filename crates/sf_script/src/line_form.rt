@@ -2,21 +2,20 @@
 ghost use Rattle.std.specs.Prelude.{◌≡◌, is_some};
 ghost use Rattle.sf_script.specs.CallLines.{call_form};
 ghost use Rattle.sf_script.specs.Gives.{Gives};
-ghost use Rattle.sf_script.specs.LineForms.{header_line, sessions_line, option_line, call_line, schedule_line, form_of, is_built_plain, is_built_call};
+ghost use Rattle.sf_script.specs.LineForms.{header_line, sessions_line, option_line, call_line, schedule_line, form_of};
 ghost use Rattle.sf_script.specs.Numbers.{number_of};
 ghost use Rattle.sf_script.specs.OptionLines.{option_of};
-ghost use Rattle.sf_script.specs.Steps.{built};
-ghost use Rattle.sf_script.specs.Views.{call_view, line_view};
+ghost use Rattle.sf_script.specs.Provisional.Forms.{form_or_later};
+ghost use Rattle.sf_script.specs.Inside.Views.{call_view, line_view};
 
-use crate::call::{PayloadCall, SpelledCall};
+use crate::call::SpelledCall;
 use crate::call_table::call_form;
 use crate::fault::{Reason, Stop};
-use crate::payload::SpelledPayload;
+use crate::provisional::is_built_call;
 use crate::reading::Reading;
 use crate::schedule::{are_turns, session_of};
 use crate::words::{first_word, is_word};
 use crate::{number, words};
-use sf_types::Call;
 use std::alloc::Global;
 
 // What a line of a form that is built says.
@@ -30,7 +29,7 @@ pub enum SpelledLine<'a> {
 // `securefiles 1`
 #[tactic(auto, unfolding(crate::specs::LineForms::header_line))]
 fn header_line(text: &[u8]) -> Result<SpelledLine<'_>, Stop>
-    ensures { Gives line_view result (built (header_line text.now)) }
+    ensures { Gives line_view result (form_or_later (header_line text.now)) }
 {
     if is_word(b"securefiles 1", text) {
         Ok(SpelledLine::Header)
@@ -66,7 +65,7 @@ fn is_option(word: &[u8], text: &[u8]) -> bool
 
 // `sessions 1`: the number behind the word. No other number is built.
 fn sessions_line(text: &[u8]) -> Result<SpelledLine<'_>, Stop>
-    ensures { Gives line_view result (built (sessions_line text.now)) }
+    ensures { Gives line_view result (form_or_later (sessions_line text.now)) }
 {
     match number::number_of(text) {
         Some(1) => Ok(SpelledLine::Sessions(1)),
@@ -78,7 +77,7 @@ fn sessions_line(text: &[u8]) -> Result<SpelledLine<'_>, Stop>
 // `sessions N`, or an option's word and what it is set to. Of these `sessions 1` is built.
 #[tactic(auto, unfolding(crate::specs::LineForms::option_line))]
 fn option_line(text: &[u8]) -> Result<SpelledLine<'_>, Stop>
-    ensures { Gives line_view result (built (option_line text.now)) }
+    ensures { Gives line_view result (form_or_later (option_line text.now)) }
 {
     let Some((word, rest)) = words::word_at(text) else {
         return Err(Stop::Refused(Reason::Form));
@@ -92,37 +91,10 @@ fn option_line(text: &[u8]) -> Result<SpelledLine<'_>, Stop>
     }
 }
 
-// Whether a call without a payload is built.
-fn is_built_plain(call: &Call) -> bool
-    ensures { result ≡ is_built_plain call.now }
-{
-    matches!(
-        call,
-        Call::Insert { .. }
-            | Call::Lock { .. }
-            | Call::Length { .. }
-            | Call::Read { .. }
-            | Call::Commit
-    )
-}
-
-// Whether a call is built.
-fn is_built_call(call: &SpelledCall) -> bool
-    ensures { result ≡ is_built_call (call_view call.now) }
-{
-    match call {
-        SpelledCall::Plain(call) => is_built_plain(call),
-        SpelledCall::WithPayload(call, payload) => {
-            matches!(call, PayloadCall::WriteAppend { .. })
-                && matches!(payload, SpelledPayload::Text(_))
-        }
-    }
-}
-
 // `S: ` and a call
 #[tactic(auto, unfolding(crate::specs::LineForms::call_line))]
 fn call_line(alloc: Global, sessions: u16, text: &[u8]) -> Result<SpelledLine<'_>, Stop>
-    ensures { Gives line_view result (built (call_line sessions text.now)) }
+    ensures { Gives line_view result (form_or_later (call_line sessions text.now)) }
 {
     let Some((word, rest)) = words::word_at(text) else {
         return Err(Stop::Refused(Reason::Form));
@@ -141,7 +113,7 @@ fn call_line(alloc: Global, sessions: u16, text: &[u8]) -> Result<SpelledLine<'_
 // `schedule` and one or more turns, which isn't built.
 #[tactic(auto, unfolding(crate::specs::LineForms::schedule_line))]
 fn schedule_line(sessions: u16, text: &[u8]) -> Result<SpelledLine<'_>, Stop>
-    ensures { Gives line_view result (built (schedule_line sessions text.now)) }
+    ensures { Gives line_view result (form_or_later (schedule_line sessions text.now)) }
 {
     let Some((_, rest)) = words::word_at(text) else {
         return Err(Stop::Refused(Reason::Form));
@@ -159,7 +131,7 @@ pub fn line_form<'a>(
     reading: &Reading,
     text: &'a [u8],
 ) -> Result<SpelledLine<'a>, Stop>
-    ensures { Gives line_view result (built (form_of reading.now text.now)) }
+    ensures { Gives line_view result (form_or_later (form_of reading.now text.now)) }
 {
     match reading {
         Reading::Nothing => header_line(text),

@@ -2,7 +2,7 @@
 ghost use Rattle.std.specs.Prelude.{◌≡◌, ◌+◌, ◌<◌, ◌≤◌, ◌∷◌, [], length, MatchOption};
 ghost use Rattle.std.specs.List.{list_all};
 ghost use Rattle.sf_script.specs.Lines.{lines_of, is_line_byte};
-ghost use Rattle.sf_script.specs.Views.{text_line};
+ghost use Rattle.sf_script.specs.Inside.Views.{text_line};
 
 use crate::words::place_of;
 

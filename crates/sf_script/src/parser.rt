@@ -1,24 +1,23 @@
 //! The parser.
 ghost use Rattle.std.specs.Prelude.{◌≡◌, ◌+◌, ◌≤◌, length, IfOk, MatchResult, Ok, Err};
 ghost use Rattle.sf_script.specs.Gives.{Gives};
+ghost use Rattle.sf_script.specs.declared.limits.TheConstants.{SCRIPT_BYTES};
 ghost use Rattle.sf_script.specs.Reasons.{after_form};
-ghost use Rattle.sf_script.specs.Steps.{step, CanFollow};
+ghost use Rattle.sf_script.specs.Inside.Readings.{next_reading, CanFollow};
 ghost use Rattle.sf_script.specs.Lines.{lines_of};
 ghost use Rattle.sf_script.specs.Scripts.{script_of, script_from, script_at_end};
-ghost use Rattle.sf_script.specs.Views.{text_line, line_view};
+ghost use Rattle.sf_script.specs.Inside.Views.{text_line, line_view};
 
-use crate::call::call_of;
+use crate::call::spelled_call;
 use crate::checks::{has_wrong_bytes, is_misplaced, names_no_session, passes_limit};
 use crate::fault::{Reason, ScriptFault, Stop};
+use crate::limits::SCRIPT_BYTES;
 use crate::line_form::{SpelledLine, line_form};
 use crate::lines::{TextLine, first_line};
 use crate::reading::{Draft, Reading};
 use crate::script::Script;
 use sf_types::{Mem, OutOfMemory};
 use std::alloc::Global;
-
-// The most bytes of a script.
-const SCRIPT_BYTES: usize = 16_777_216;
 
 // What was read with one more line.
 fn after_form(alloc: Global, reading: Reading, line: SpelledLine) -> Mem<Reading>
@@ -30,7 +29,7 @@ fn after_form(alloc: Global, reading: Reading, line: SpelledLine) -> Mem<Reading
         SpelledLine::Sessions(number) => Ok(Reading::Sessions(Draft::new(alloc, number as u16)?)),
         SpelledLine::Call(session, call) => match reading {
             Reading::Sessions(draft) => {
-                let call = call_of(alloc, call)?;
+                let call = spelled_call(alloc, call)?;
                 Ok(Reading::Sessions(draft.with_call(session, call)?))
             }
             reading => Ok(reading),
@@ -40,7 +39,7 @@ fn after_form(alloc: Global, reading: Reading, line: SpelledLine) -> Mem<Reading
 
 // Reads one line: the first reason that holds refuses it.
 fn read_line(alloc: Global, reading: Reading, line: TextLine) -> Result<Reading, Stop>
-    ensures { Gives (λ next. next) result (step reading (text_line line.entry)) }
+    ensures { Gives (λ next. next) result (next_reading reading (text_line line.entry)) }
 {
     if has_wrong_bytes(&line) {
         return Err(Stop::Refused(Reason::Bytes));
@@ -73,7 +72,7 @@ fn script_at_end(alloc: Global, line: u32, reading: Reading) -> Result<Script, S
 
 // The script of the lines of a text.
 fn script_of_lines(alloc: Global, bytes: &[u8]) -> Mem<Result<Script, ScriptFault>>
-    requires { length bytes.now ≤ 16777216 }
+    requires { length bytes.now ≤ SCRIPT_BYTES }
     ensures { IfOk result (λ read. read ≡ script_from 1 Reading.Nothing (lines_of bytes.now)) }
 {
     let mut number: u32 = 1;

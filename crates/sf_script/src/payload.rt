@@ -2,7 +2,7 @@
 ghost use Rattle.std.specs.Prelude.{◌≡◌, ◌<◌, option_map, length, IsTrue, IfOk};
 ghost use Rattle.std.specs.List.{list_all};
 ghost use Rattle.sf_script.specs.Payloads.{is_text_byte, is_hex_digit, has_hex_digits, hex_value, hex_byte, hex_bytes, bytes_of, text_of, hex_of, star_byte_of, copies_of, payload_of};
-ghost use Rattle.sf_script.specs.Views.{payload_view};
+ghost use Rattle.sf_script.specs.Inside.Views.{payload_view};
 
 use crate::number::{is_digit, number_of};
 use sf_types::{Blob, Mem};

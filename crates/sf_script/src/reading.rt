@@ -1,22 +1,16 @@
 //! What was read so far.
 ghost use Rattle.std.specs.Prelude.{◌≡◌, ◌≤◌, IfOk, IsTrue, false};
-ghost use Rattle.sf_script.specs.Parts.{can_stand, payload_length};
+ghost use Rattle.sf_script.specs.Provisional.Calls.{can_stand};
+ghost use Rattle.sf_script.specs.Parts.{payload_length};
+ghost use Rattle.sf_types.specs.declared.limits.TheConstants.{STORE_SESSIONS};
 ghost use Rattle.sf_script.specs.Reasons.{new_script, with_call, passes_call_limit};
 
 use crate::call::payload_length;
-use crate::script::{CallList, Script};
-use sf_types::{Call, List, Mem, Options};
+use crate::limits::{SCRIPT_CALLS, SCRIPT_PAYLOAD_BYTES};
+use crate::script::Script;
+use sf_types::{BUFFER_BYTES, Call, CallList, List, Mem, Options};
 use std::alloc::Global;
 use std::marker::Model;
-
-// The most bytes of a call's payload.
-const PAYLOAD_BYTES: u64 = 32_767;
-
-// The most calls of a script.
-const SCRIPT_CALLS: u32 = 20_000;
-
-// The most payload bytes of a script.
-const SCRIPT_PAYLOAD_BYTES: u64 = 67_108_864;
 
 // What was read so far: nothing, the header, or the sessions line and calls after it.
 #[derive(Drop)]
@@ -39,7 +33,7 @@ impl Model for Draft {
     ghost use Rattle.std.specs.Prelude.{[]};
     ghost use Rattle.sf_types.specs.Limits.{standard_options};
     ghost use Rattle.sf_script.specs.Parts.{ScriptParts};
-    ghost use Rattle.sf_script.specs.Drafts.{IsDraft};
+    ghost use Rattle.sf_script.specs.Inside.Drafts.{IsDraft};
 
     ghost Value = { ScriptParts };
 
@@ -52,7 +46,7 @@ impl Draft {
     // A script of so many sessions with no calls.
     pub fn new(alloc: Global, sessions: u16) -> Mem<Draft>
         requires low { 1 ≤ sessions }
-        requires high { sessions ≤ 16 }
+        requires high { sessions ≤ STORE_SESSIONS }
         ensures { IfOk result (λ draft. draft ≡ new_script sessions) }
     {
         let mut calls = Vec::new(alloc);
@@ -78,7 +72,7 @@ impl Draft {
     pub fn has_no_room(&self, length: u64) -> bool
         ensures { result ≡ passes_call_limit self.now length }
     {
-        length > PAYLOAD_BYTES
+        length > BUFFER_BYTES
             || self.call_count >= SCRIPT_CALLS
             || length > SCRIPT_PAYLOAD_BYTES - u64::from(self.payload_bytes)
     }

@@ -3,14 +3,8 @@ ghost use Rattle.std.specs.Prelude.{◌≡◌};
 ghost use Rattle.sf_script.specs.Parts.{IsScript};
 
 use crate::turn::Turn;
-use sf_types::{Call, List, Options};
+use sf_types::{CallTable, List, Options};
 use std::marker::Model;
-
-/// The calls of one session in their order, without its End.
-pub type CallList = List<Call>;
-
-/// The calls of each session.
-pub type CallTable = List<CallList>;
 
 /// The turns of a schedule in their order.
 pub type TurnList = List<Turn>;

@@ -1,5 +1,5 @@
 -- Tests that are joined.
-use Rattle.std.proofs.Common.{◌≡◌, Bool, true, false, not, ◌||◌, ◌&&◌, refl}
+use Rattle.std.proofs.Common.{◌≡◌, Bool, true, false, not, ◌||◌, ◌&&◌, ◌⊎◌, inl, inr, refl}
 use Rattle.std.specs.Prelude.{T}
 
 pub none-of-both : (a b : Bool) → a ≡ false → b ≡ false → (a || b) ≡ false
@@ -81,3 +81,19 @@ second false b p = absurd p
 pub both : (a b : Bool) → T a → T b → T (a && b)
 both true b p q = q
 both false b p q = p
+
+pub both_first : (a b : Bool) → (a && b) ≡ true → a ≡ true
+both_first true b h = refl
+both_first false b h = h
+
+pub both_second : (a b : Bool) → (a && b) ≡ true → b ≡ true
+both_second true b h = h
+both_second false b h = absurd cc
+
+pub either : (a b : Bool) → (a || b) ≡ true → (a ≡ true) ⊎ (b ≡ true)
+either true b is = inl refl
+either false b is = inr is
+
+pub not_not : (b : Bool) → not b ≡ false → b ≡ true
+not_not true is = refl
+not_not false is = absurd cc

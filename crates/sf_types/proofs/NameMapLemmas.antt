@@ -12,6 +12,7 @@ use Rattle.std.specs.FinMap.{nat_cmp-IsAntisymmetric, slice_cmp-IsAntisymmetric}
 use Rattle.std.specs.FinMap.Entries as fin
 use Rattle.std.proofs.lemmas.Cmp.{tied_itself}
 use Rattle.sf_types.specs.Values.Names.{name_cmp}
+use Rattle.sf_types.proofs.BoolLemmas.{both, first, second}
 use Rattle.sf_types.specs.Inside.NameMaps.{NameMap, is_same_name, get, with_entry, without_entry}
 
 -- std's words for maps and those of finite maps say the same
@@ -53,22 +54,10 @@ pub rising-put : {X : Type 0} (m : NameMap X) (k : List ℕ) (v : X) → IsRisin
 unfolding IsRisingMap
 rising-put m k v rising = rw insert_entry-is (fin.is_sorted-put name_cmp nat_list_cmp_total k v m rising)
 
-pub both : (a b : Bool) → T a → T b → T (a && b)
-both true b p q = q
-both false b p q = p
-
-pub first : (a b : Bool) → T (a && b) → T a
-first true b p = tt
-first false b p = p
-
-pub second : (a b : Bool) → T (a && b) → T b
-second true b p = p
-second false b p = absurd p
-
-pub less : (r : Ordering) → T (is_lt r) → r ≡ Less
-less Less p = refl
-less Equal p = absurd p
-less Greater p = absurd p
+pub ordering_less : (r : Ordering) → T (is_lt r) → r ≡ Less
+ordering_less Less p = refl
+ordering_less Equal p = absurd p
+ordering_less Greater p = absurd p
 
 equal : (r : Ordering) → is_eq r ≡ true → r ≡ Equal
 equal Less p = absurd cc
@@ -93,5 +82,5 @@ rising_from_ordered (e ∷ m) ordered = both (fin.below_all name_cmp e.0 m) (fin
 pub absent_below : {X : Type 0} (x : List ℕ) (m : NameMap X) → T (fin.below_all name_cmp x m) → get m x ≡ None
 absent_below x [] below = refl
 absent_below x (e ∷ m) below =
-    let lt : name_cmp x e.0 ≡ Less = less (name_cmp x e.0) (first (is_lt (name_cmp x e.0)) (fin.below_all name_cmp x m) below) in
+    let lt : name_cmp x e.0 ≡ Less = ordering_less (name_cmp x e.0) (first (is_lt (name_cmp x e.0)) (fin.below_all name_cmp x m) below) in
     rw lt (absent_below x m (second (is_lt (name_cmp x e.0)) (fin.below_all name_cmp x m) below))

@@ -1,5 +1,5 @@
 -- What tests of numbers tell.
-use Rattle.std.proofs.Common.{◌≡◌, ℕ, ◌≤◌, ◌<◌, Bool, true, false, refl, arith}
+use Rattle.std.proofs.Common.{◌≡◌, ℕ, ◌-◌, ◌≤◌, ◌<◌, Bool, true, false, ◌&&◌, IsTrue, refl, arith}
 use Rattle.std.specs.Prelude.{nat_le, nat_lt, ◌==◌}
 use Rattle.std.proofs.lemmas.Bool.Decides.{nat_tests, Decides-eqb}
 
@@ -30,3 +30,10 @@ other_number a b apart = go (a == b) refl
     go : (x : Bool) → (a == b) ≡ x → (a == b) ≡ false
     go true is = absurd (apart (same_number a b is))
     go false is = is
+
+-- a number from 1 to n
+pub from_one : (s n : ℕ) → IsTrue (nat_le 1 s && nat_le s n) → 1 ≤ s
+from_one s n has = grind (arith, nat_tests)
+
+pub one_less : (s n : ℕ) → IsTrue (nat_le 1 s && nat_le s n) → s - 1 < n
+one_less s n has = grind (arith, nat_tests)

@@ -5,6 +5,7 @@ use Rattle.std.specs.Option.{option_map_or}
 use Rattle.std.proofs.lemmas.Bool.Decides.{nat_tests}
 use Rattle.std.proofs.lemmas.Option.{slice_get-get_or}
 use Rattle.std.proofs.lemmas.List.{set-get_or}
+use Rattle.sf_types.proofs.NumberLemmas.{one_less}
 use Rattle.sf_types.specs.declared.call.Call.{Call}
 use Rattle.sf_types.specs.declared.call.Call.TheVariants as call
 use Rattle.sf_types.specs.declared.reply.Fault.{Fault}
@@ -27,13 +28,10 @@ use Rattle.sf_types.specs.Space.Promises.{flush_cuts, fits_at, floor_candidates,
 use Rattle.sf_types.specs.Space.Publications.{publish_of, publish_write, without_promise, with_contents, settled_flush}
 use Rattle.sf_types.specs.Orders.Histories.{call_effect, entry_effect}
 
-within : (s n : ℕ) → IsTrue (nat_le 1 s && nat_le s n) → s - 1 < n
-within s n has = grind (arith, nat_tests)
-
 -- a session's own part put back
 pub same_part : (t : Table) (s : ℕ) → IsTrue (has_session t s) → with_session t s (session_of t s) ≡ t
 same_part t s has =
-    let own : session_of t s ≡ get_or t.sessions (s - 1) new_session = ap (λ o. unwrap_or o new_session) (slice_get-get_or t.sessions (s - 1) new_session (within s (length t.sessions) has)) in
+    let own : session_of t s ≡ get_or t.sessions (s - 1) new_session = ap (λ o. unwrap_or o new_session) (slice_get-get_or t.sessions (s - 1) new_session (one_less s (length t.sessions) has)) in
     ap (λ (xs : List Session). record t { sessions = xs }) (ap (slice_set t.sessions (s - 1)) own ∙ set-get_or t.sessions (s - 1) new_session)
 
 -- What is done is no refusal.

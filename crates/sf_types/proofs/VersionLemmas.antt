@@ -10,7 +10,8 @@ use Rattle.sf_types.specs.Inside.NameMaps.{is_same_name, get}
 use Rattle.sf_types.specs.Values.Marks.{Value}
 use Rattle.sf_types.specs.Table.Parts.{Rows}
 use Rattle.sf_types.specs.Table.Versions.{value_or_absent, later_change, last_change, overlay, merged_commits, present_values}
-use Rattle.sf_types.proofs.NameMapLemmas.{both, first, second, same_name, get-put, lookup-is, IsRisingMap, rising-put, absent_below}
+use Rattle.sf_types.proofs.NameMapLemmas.{same_name, get-put, lookup-is, IsRisingMap, rising-put, absent_below}
+use Rattle.sf_types.proofs.BoolLemmas.{both, first, second}
 
 over_at : (b : Bool) (low up : Option (Option Value)) (x : Option Value) → cond b (Some x) (later_change low up) ≡ later_change low (cond b (Some x) up)
 over_at true low up x = refl

@@ -1,6 +1,6 @@
 use Rattle.std.proofs.Common.{sym, ap, ◌∙◌}
 use Rattle.std.specs.Prelude.{not}
-use Rattle.sf_script.proofs.Turns.{has_turns, has_none}
+use Rattle.sf_script.proofs.TurnLemmas.{has_turns, has_none}
 use Rattle.sf_script.proofs.checks.has_no_turns.Goals as goal
 
 pub returns-in-Some : goal.returns-in-Some

@@ -1,5 +1,5 @@
 use Rattle.std.proofs.Common.{sym, ◌∙◌}
-use Rattle.sf_script.proofs.Turns.{schedule_none, schedule_wrong, schedule_later}
+use Rattle.sf_script.proofs.TurnLemmas.{schedule_none, schedule_wrong, schedule_later}
 use Rattle.sf_script.proofs.line_form.schedule_line.Goals as goal
 
 pub returns-in_default : goal.returns-in_default

@@ -2,7 +2,7 @@ use Rattle.std.proofs.Common.{◌≡◌, [], length, drop, sym, ap, ◌∙◌, a
 use Rattle.std.proofs.lemmas.Bool.{eqb-true, eqb-false}
 use Rattle.std.proofs.lemmas.List.{take_rest, drop_all}
 use Rattle.sf_script.specs.Lines.{lines_of}
-use Rattle.sf_script.proofs.LineCuts.{no_line, ended_line, open_line}
+use Rattle.sf_script.proofs.LineLemmas.{no_line, ended_line, open_line}
 use Rattle.sf_script.proofs.lines.first_line.Goals as goal
 
 pub returns-then-is_empty-clause-lines : goal.returns-then-is_empty-clause-lines

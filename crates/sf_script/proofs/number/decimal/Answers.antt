@@ -1,5 +1,5 @@
 use Rattle.std.proofs.Common.{sym, ◌∙◌, arith}
-use Rattle.sf_script.proofs.Decimal.{stops_at, ends_at}
+use Rattle.sf_script.proofs.DecimalLemmas.{stops_at, ends_at}
 use Rattle.sf_script.proofs.number.decimal.Goals as goal
 
 pub returns-in-None : goal.returns-in-None

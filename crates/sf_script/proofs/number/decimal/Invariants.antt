@@ -1,5 +1,5 @@
 use Rattle.std.proofs.Common.{◌≡◌, ◌<◌, ◌^◌, length}
-use Rattle.sf_script.proofs.Decimal.{decimal_from}
+use Rattle.sf_script.proofs.DecimalLemmas.{decimal_from}
 use Rattle.sf_script.proofs.number.decimal.Given as goal
 
 abbrev pub invariant-loop-rest : goal.invariant-loop-rest

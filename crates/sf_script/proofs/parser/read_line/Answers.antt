@@ -1,9 +1,9 @@
 use Rattle.std.proofs.Common.{Ok, sym, ap, ◌∙◌}
 use Rattle.std.proofs.lemmas.Result.{err_from_is_err_and}
 use Rattle.sf_script.specs.declared.reading.Reading.{Reading}
-use Rattle.sf_script.specs.Views.{text_line, line_view}
-use Rattle.sf_script.proofs.Follows.{can_follow}
-use Rattle.sf_script.proofs.Steps.{wrong_bytes, misplaced, no_session, fails, passes, done}
+use Rattle.sf_script.specs.Inside.Views.{text_line, line_view}
+use Rattle.sf_script.proofs.FollowLemmas.{can_follow}
+use Rattle.sf_script.proofs.StepLemmas.{wrong_bytes, misplaced, no_session, fails, passes, done}
 use Rattle.sf_script.proofs.parser.read_line.Goals as goal
 
 pub returns-then-has_wrong_bytes : goal.returns-then-has_wrong_bytes

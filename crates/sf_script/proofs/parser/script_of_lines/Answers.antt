@@ -1,14 +1,14 @@
 use Rattle.std.proofs.Common.{◌≡◌, Err, sym, ap, ◌∙◌, arith}
 use Rattle.sf_script.specs.Lines.{lines_of}
-use Rattle.sf_script.specs.Steps.{step}
+use Rattle.sf_script.specs.Inside.Readings.{next_reading}
 use Rattle.sf_script.specs.Scripts.{script_from}
-use Rattle.sf_script.specs.Views.{text_line}
-use Rattle.sf_script.proofs.Steps.{goes_on, ends, at_end}
+use Rattle.sf_script.specs.Inside.Views.{text_line}
+use Rattle.sf_script.proofs.StepLemmas.{goes_on, ends, at_end}
 use Rattle.sf_script.proofs.parser.script_of_lines.Goals as goal
 
 pub returns-in-Err-Refused : goal.returns-in-Err-Refused
 returns-in-Err-Refused c =
-    let stop : step c.loop-line.reading (text_line c.in-Some.line) ≡ Err c.in-Err-Refused.reason = rw c.in-Err-Refused.field-0-is at c.in-Err-Refused.ensures in
+    let stop : next_reading c.loop-line.reading (text_line c.in-Some.line) ≡ Err c.in-Err-Refused.reason = rw c.in-Err-Refused.field-0-is at c.in-Err-Refused.ensures in
     let wrong = ends c.loop-line.number c.loop-line.reading c.in-Err-Refused.reason (text_line c.in-Some.line) (lines_of c.in-Some.after.now) stop in
     let here = ap (script_from c.loop-line.number c.loop-line.reading) c.in-Some.ensures.lines in
     rw c.in-Err-Refused.reason-is (sym (here ∙ wrong) ∙ c.loop-line.invariant.0)

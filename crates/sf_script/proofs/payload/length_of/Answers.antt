@@ -1,4 +1,4 @@
-use Rattle.sf_script.proofs.HexDigits.{length-hex_bytes}
+use Rattle.sf_script.proofs.HexLemmas.{length-hex_bytes}
 use Rattle.sf_script.proofs.payload.length_of.Goals as goal
 
 pub returns-in-Hex : goal.returns-in-Hex

@@ -1,7 +1,7 @@
 use Rattle.std.proofs.Common.{◌≡◌, true, false, sym, ◌∙◌}
 use Rattle.std.specs.Prelude.{is_some}
 use Rattle.sf_script.specs.Schedules.{turn_of}
-use Rattle.sf_script.proofs.Turns.{turn_right, turn_wrong, turn_last, fewer}
+use Rattle.sf_script.proofs.TurnLemmas.{turn_right, turn_wrong, turn_last, fewer}
 use Rattle.sf_script.proofs.schedule.are_turns.Goals as goal
 
 pub returns-then-not-is_turn : goal.returns-then-not-is_turn

@@ -1,5 +1,5 @@
 use Rattle.memchr.specs.Find.{is_byte}
-use Rattle.sf_script.proofs.Cuts.{place_found, place_missing}
+use Rattle.sf_script.proofs.CutLemmas.{place_found, place_missing}
 use Rattle.sf_script.proofs.words.place_of.Goals as goal
 
 pub returns-in-Some-clause-place : goal.returns-in-Some-clause-place

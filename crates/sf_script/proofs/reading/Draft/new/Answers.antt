@@ -1,5 +1,5 @@
 use Rattle.std.proofs.Common.{◌≡◌, arith}
-use Rattle.sf_script.proofs.DraftSteps.{new_is_draft}
+use Rattle.sf_script.proofs.DraftLemmas.{new_is_draft}
 use Rattle.sf_script.proofs.reading.Draft.new.Goals as goal
 
 pub invariant_of-result : goal.invariant_of-result

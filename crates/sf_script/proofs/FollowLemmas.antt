@@ -10,17 +10,19 @@ use Rattle.sf_script.specs.declared.call.PayloadCall.TheVariants as wants
 use Rattle.sf_script.specs.declared.reading.Reading.{Reading}
 use Rattle.sf_script.specs.declared.reading.Reading.TheVariants as reads
 use Rattle.sf_script.specs.CallLines.{call_form}
-use Rattle.sf_script.specs.Calls.{CallForm, Plain, WithPayload, call_with, call_of}
+use Rattle.sf_script.specs.Calls.{CallForm, Plain, WithPayload, call_with, spelled_call}
 use Rattle.sf_script.specs.Gives.{◌>>=◌}
-use Rattle.sf_script.specs.LineForms.{LineForm, HeaderLine, SetsOption, SessionsLine, CallLine, ScheduleLine, form_of, schedule_line, call_line, is_built_plain, is_built_call}
+use Rattle.sf_script.specs.LineForms.{LineForm, HeaderLine, SetsOption, SessionsLine, CallLine, ScheduleLine, form_of, schedule_line, call_line}
+use Rattle.sf_script.specs.Provisional.Forms.{is_built_plain, is_built_call}
 use Rattle.sf_script.specs.Numbers.{number_of}
-use Rattle.sf_script.specs.Parts.{can_stand}
+use Rattle.sf_script.specs.Provisional.Calls.{can_stand}
 use Rattle.sf_script.specs.Payloads.{Payload, Text, Hex, Copies, bytes_of, has_hex_digits}
 use Rattle.sf_script.specs.Reasons.{form_passes_limit}
-use Rattle.sf_script.specs.Steps.{built, CanFollow}
+use Rattle.sf_script.specs.Provisional.Forms.{form_or_later}
+use Rattle.sf_script.specs.Inside.Readings.{CanFollow}
 use Rattle.sf_script.specs.Schedules.{session_number, session_of, ends_with_colon}
 use Rattle.sf_script.specs.Words.{word_at, first_word, is_word}
-use Rattle.sf_script.proofs.Steps.{built_ok}
+use Rattle.sf_script.proofs.StepLemmas.{built_ok}
 
 bind_some : {A B : Type 0} (o : Option A) (f : A → Option B) (y : B) → (o >>= f) ≡ Some y → (x : A) × (o ≡ Some x) × (f x ≡ Some y)
 bind_some (Some x) f y e = (x, refl, e)
@@ -78,7 +80,7 @@ with_stands (wants.Write at offset) payload e = absurd cc
 with_stands (wants.FragInsert at offset) payload e = absurd cc
 with_stands (wants.FragReplace at old_amount offset) payload e = absurd cc
 
-pub stands : (form : CallForm) → is_built_call form ≡ true → can_stand (call_of form) ≡ true
+pub stands : (form : CallForm) → is_built_call form ≡ true → can_stand (spelled_call form) ≡ true
 stands (Plain call) e = plain_stands call e
 stands (WithPayload call payload) e = with_stands call payload e
 
@@ -96,7 +98,7 @@ not_false : (b : Bool) → not b ≡ false → b ≡ true
 not_false true e = refl
 not_false false e = absurd cc
 
-pub can_follow : (reading : Reading) (text : List ℕ) (form : LineForm) → built (form_of reading text) ≡ Ok form → form_passes_limit reading form ≡ false → CanFollow reading form
+pub can_follow : (reading : Reading) (text : List ℕ) (form : LineForm) → form_or_later (form_of reading text) ≡ Ok form → form_passes_limit reading form ≡ false → CanFollow reading form
 unfolding form_passes_limit
 can_follow reads.Nothing text HeaderLine h limit = tt
 can_follow reads.Header text HeaderLine h limit = tt

@@ -9,9 +9,10 @@ use Rattle.std.proofs.lemmas.List.Folds.{list_all-append, sum_by-replicate}
 use Rattle.sf_types.specs.Limits.{IsInRange, standard_options}
 use Rattle.sf_types.specs.declared.limits.TheConstants.{BUFFER_BYTES}
 use Rattle.sf_types.specs.declared.call.Call.{Call}
-use Rattle.sf_script.specs.Drafts.{IsDraft}
-use Rattle.sf_script.specs.Limits.{script_calls, script_payload_bytes}
-use Rattle.sf_script.specs.Parts.{ScriptParts, can_stand, payload_length, call_count, payload_bytes}
+use Rattle.sf_script.specs.Inside.Drafts.{IsDraft}
+use Rattle.sf_script.specs.declared.limits.TheConstants.{SCRIPT_CALLS, SCRIPT_PAYLOAD_BYTES}
+use Rattle.sf_script.specs.Parts.{ScriptParts, payload_length, call_count, payload_bytes}
+use Rattle.sf_script.specs.Provisional.Calls.{can_stand}
 use Rattle.sf_script.specs.Reasons.{new_script, with_call, passes_call_limit}
 
 standard_in_range : IsInRange standard_options
@@ -77,8 +78,8 @@ with_call_is_draft parts count bytes session call draft low high stands room =
     let counted = sum_by-set length parts.calls i new [] within in
     let weighed = sum_by-set (sum_by payload_length) parts.calls i new [] within in
     let heavier = sum_by-append payload_length old (call ∷ []) in
-    let both = no_or (ltb BUFFER_BYTES (payload_length call) || ltb script_calls (call_count parts.calls + 1)) (ltb script_payload_bytes (payload_bytes parts.calls + payload_length call)) room in
-    let few = ltb-false _ _ (no_or (ltb BUFFER_BYTES (payload_length call)) (ltb script_calls (call_count parts.calls + 1)) both.0).1 in
+    let both = no_or (ltb BUFFER_BYTES (payload_length call) || ltb SCRIPT_CALLS (call_count parts.calls + 1)) (ltb SCRIPT_PAYLOAD_BYTES (payload_bytes parts.calls + payload_length call)) room in
+    let few = ltb-false _ _ (no_or (ltb BUFFER_BYTES (payload_length call)) (ltb SCRIPT_CALLS (call_count parts.calls + 1)) both.0).1 in
     let small = ltb-false _ _ both.1 in
     let all_new : list_all can_stand new ≡ true = list_all-append can_stand old (call ∷ []) ∙ and_from _ _ (all_at can_stand parts.calls i draft.script.stands) (and_from (can_stand call) true stands refl) in
     record {

@@ -1,6 +1,6 @@
 -- Scripts that are being read.
 use Rattle.std.specs.Prelude.{◌≡◌, ℕ, ◌≤◌}
-use Rattle.sf_script.specs.Limits.{script_calls, script_payload_bytes}
+use Rattle.sf_script.specs.declared.limits.TheConstants.{SCRIPT_CALLS, SCRIPT_PAYLOAD_BYTES}
 use Rattle.sf_script.specs.Parts.{ScriptParts, IsScript, call_count, payload_bytes}
 
 -- A script with the number of its calls and of their payload bytes, which are within the limits.
@@ -8,5 +8,5 @@ pub record IsDraft (parts : ScriptParts) (count bytes : ℕ) : Type 0 where
   pub script : IsScript parts
   pub calls : count ≡ call_count parts.calls
   pub payloads : bytes ≡ payload_bytes parts.calls
-  pub few : count ≤ script_calls
-  pub small : bytes ≤ script_payload_bytes
+  pub few : count ≤ SCRIPT_CALLS
+  pub small : bytes ≤ SCRIPT_PAYLOAD_BYTES

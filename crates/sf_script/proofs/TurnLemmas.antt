@@ -9,10 +9,10 @@ use Rattle.std.proofs.lemmas.Option.{cond_some}
 use Rattle.sf_script.specs.declared.fault.Reason.TheVariants.{Form, Later}
 use Rattle.sf_script.specs.LineForms.{schedule_line}
 use Rattle.sf_script.specs.Numbers.{is_empty_list}
-use Rattle.sf_script.specs.Steps.{built}
+use Rattle.sf_script.specs.Provisional.Forms.{form_or_later}
 use Rattle.sf_script.specs.Schedules.{schedule_words, turn_of, are_turns}
 use Rattle.sf_script.specs.Words.{is_space, has_space, first_word, word_at, parts_of}
-use Rattle.sf_script.proofs.Cuts.{one_part}
+use Rattle.sf_script.proofs.CutLemmas.{one_part}
 
 cut_some : {A : Type 0} (b : Bool) (x y : A) → Some y ≡ cond b (Some x) None → (b ≡ true) × (x ≡ y)
 cut_some b x y e = cond_some b x y (sym e)
@@ -99,14 +99,14 @@ pub has_none : (sessions : ℕ) (text : List ℕ) → None ≡ word_at text → 
 has_none sessions text cut = ap (are_turns sessions) (no_words text cut) ∙ turns-nil sessions
 
 -- a schedule line is never built
-pub schedule_none : (sessions : ℕ) (text : List ℕ) → None ≡ word_at text → built (schedule_line sessions text) ≡ Err Form
+pub schedule_none : (sessions : ℕ) (text : List ℕ) → None ≡ word_at text → form_or_later (schedule_line sessions text) ≡ Err Form
 unfolding schedule_line
 schedule_none sessions text cut = rw (no_words text cut) refl
 
-pub schedule_wrong : (sessions : ℕ) (text word rest : List ℕ) → Some (word, rest) ≡ word_at text → are_turns sessions (parts_of rest) ≡ false → built (schedule_line sessions text) ≡ Err Form
+pub schedule_wrong : (sessions : ℕ) (text word rest : List ℕ) → Some (word, rest) ≡ word_at text → are_turns sessions (parts_of rest) ≡ false → form_or_later (schedule_line sessions text) ≡ Err Form
 unfolding schedule_line
 schedule_wrong sessions text word rest cut wrong = rw (words_behind text word rest cut, has_part rest, wrong) refl
 
-pub schedule_later : (sessions : ℕ) (text word rest : List ℕ) → Some (word, rest) ≡ word_at text → are_turns sessions (parts_of rest) ≡ true → built (schedule_line sessions text) ≡ Err Later
+pub schedule_later : (sessions : ℕ) (text word rest : List ℕ) → Some (word, rest) ≡ word_at text → are_turns sessions (parts_of rest) ≡ true → form_or_later (schedule_line sessions text) ≡ Err Later
 unfolding schedule_line
 schedule_later sessions text word rest cut right = rw (words_behind text word rest cut, has_part rest, right) refl
