@@ -1,8 +1,6 @@
 -- One case analysis over the calls: what a call that flushes nothing makes of a table.
-use Rattle.std.proofs.Common.{◌≡◌, ℕ, ◌+◌, ◌-◌, ◌≤◌, Bool, true, false, cond, IsTrue, List, [], ◌∷◌, ◌++◌, get_or, Option, Some, None, refl, sym, ap, subst, ◌∙◌}
-use Rattle.std.specs.Prelude.{is_some, is_none, unwrap_or, nat_lt, not, slice_set, bytes_eq}
-use Rattle.std.proofs.lemmas.Option.{unwrap_or-slice_get}
-use Rattle.std.proofs.lemmas.List.{set-get_or}
+use Rattle.std.proofs.Common.{◌≡◌, ℕ, ◌+◌, ◌-◌, ◌≤◌, Bool, true, false, cond, IsTrue, List, [], ◌∷◌, ◌++◌, Option, Some, None, refl, sym, subst, ◌∙◌}
+use Rattle.std.specs.Prelude.{is_some, is_none, unwrap_or, nat_lt, not, bytes_eq}
 use Rattle.sf_types.proofs.RefusalLemmas.{same_part}
 use Rattle.sf_types.specs.declared.call.Call.{Call}
 use Rattle.sf_types.specs.declared.call.Call.TheVariants as call
@@ -13,7 +11,7 @@ use Rattle.sf_types.specs.declared.reply.Reply.TheVariants as reply
 use Rattle.sf_types.specs.Inside.NameMaps.{with_entry, without_entry}
 use Rattle.sf_types.specs.Values.Marks.{Value, empty_value, size_of, strip}
 use Rattle.sf_types.specs.Values.Edits.{part}
-use Rattle.sf_types.specs.Table.Parts.{Savepoint, Session, Table, new_session}
+use Rattle.sf_types.specs.Table.Parts.{Savepoint, Session, Table}
 use Rattle.sf_types.specs.Table.Versions.{commit_count, value_at, current_value}
 use Rattle.sf_types.specs.Table.Sessions.{has_session, session_of, with_session, row_value, holds_lock, is_busy, with_lock, without_locks, locked_rows, lacks_room}
 use Rattle.sf_types.specs.Calls.Refusals.{first_refusal, refusal_or}

@@ -21,11 +21,13 @@ pub fn cuts_are_the_fresh_bytes()
 
 /// The contents of a run of n bytes take as many blocks as one content of n bytes would.
 pub fn a_run_takes_its_blocks()
-    ensures law { (run : List ℕ) → sum_by (λ bytes. blocks_of (length bytes)) (contents_of_stretch run) ≡ blocks_of (length run) }
+    ensures law { (run : List ℕ)
+        → sum_by (λ bytes. blocks_of (length bytes)) (contents_of_stretch run) ≡ blocks_of (length run) }
 {}
 
 /// Settling keeps the bytes. With a birth for each content no fresh byte is left.
 pub fn settling_keeps_the_bytes()
     ensures bytes { (v : Value) (births : List ℕ) → strip (settle_value v births) ≡ strip v }
-    ensures fresh { (v : Value) (births : List ℕ) → length (contents_of_value v) ≤ length births → fresh_count (settle_value v births) ≡ 0 }
+    ensures fresh { (v : Value) (births : List ℕ)
+        → length (contents_of_value v) ≤ length births → fresh_count (settle_value v births) ≡ 0 }
 {}

@@ -17,8 +17,10 @@ pub fn reach_rises()
 
 /// The kept versions of a row are the values that it had after some commit from the floor on.
 pub fn kept_versions_are_the_values_since_the_floor()
-    ensures kept { (t : Table) (row : List ℕ) (n : ℕ) (v : Value) → IsValueSinceFloor t row n v → (k : ℕ) × IsKeptVersion t row k v }
-    ensures since { (t : Table) (row : List ℕ) (k : ℕ) (v : Value) → t.floor ≤ commit_count t → IsKeptVersion t row k v → (n : ℕ) × IsValueSinceFloor t row n v }
+    ensures kept { (t : Table) (row : List ℕ) (n : ℕ) (v : Value)
+        → IsValueSinceFloor t row n v → (k : ℕ) × IsKeptVersion t row k v }
+    ensures since { (t : Table) (row : List ℕ) (k : ℕ) (v : Value)
+        → t.floor ≤ commit_count t → IsKeptVersion t row k v → (n : ℕ) × IsValueSinceFloor t row n v }
 {}
 
 /// A birth that is in reach after a legal entry was in reach before, or is given out by this entry. So a birth that left
@@ -31,9 +33,12 @@ pub fn births_that_left_stay_away()
 /// A birth that occurs in a value that a row had after some commit from the floor on, in a session's value, or among
 /// what a standing promise found is in reach.
 pub fn what_occurs_is_in_reach()
-    ensures row { (t : Table) (row : List ℕ) (n : ℕ) (v : Value) (b : ℕ) → IsValueSinceFloor t row n v → Contains (births_in v) b
+    ensures row { (t : Table) (row : List ℕ) (n : ℕ) (v : Value) (b : ℕ)
+        → IsValueSinceFloor t row n v → Contains (births_in v) b
         → Contains (reach t) b }
-    ensures session { (t : Table) (p : Session) (v : Value) (b : ℕ) → Contains t.sessions p → Contains (session_values p) v → Contains (births_in v) b
+    ensures session { (t : Table) (p : Session) (v : Value) (b : ℕ)
+        → Contains t.sessions p → Contains (session_values p) v → Contains (births_in v) b
         → Contains (reach t) b }
-    ensures promise { (t : Table) (p : Session) (b : ℕ) → Contains t.sessions p → Contains (found_by p) b → Contains (reach t) b }
+    ensures promise { (t : Table) (p : Session) (b : ℕ)
+        → Contains t.sessions p → Contains (found_by p) b → Contains (reach t) b }
 {}

@@ -11,11 +11,14 @@ ghost use Rattle.sf_types.specs.Orders.Histories.{effect_of};
 
 /// A refused entry leaves the table as it was, a refused promise too, whose floor stays.
 pub fn a_refused_entry_changes_nothing()
-    ensures law { (t : Table) (e : Entry) (f : Fault) → IsTrue (has_session t e.token.session) → (effect_of t e).1 ≡ Some (reply.Refused f) → (effect_of t e).0 ≡ t }
+    ensures law { (t : Table) (e : Entry) (f : Fault)
+        → IsTrue (has_session t e.token.session) → (effect_of t e).1 ≡ Some (reply.Refused f) → (effect_of t e).0 ≡ t }
 {}
 
 /// A call is refused by the first of its tests that holds, and by none where none holds.
 pub fn the_first_test_refuses()
-    ensures first { (before after : List (Bool × Fault)) (f : Fault) → list_any (λ test. test.0) before ≡ false → first_refusal (before ++ (true, f) ∷ after) ≡ Some f }
-    ensures none { (tests : List (Bool × Fault)) → list_any (λ test. test.0) tests ≡ false → first_refusal tests ≡ None }
+    ensures first { (before after : List (Bool × Fault)) (f : Fault)
+        → list_any (λ test. test.0) before ≡ false → first_refusal (before ++ (true, f) ∷ after) ≡ Some f }
+    ensures none { (tests : List (Bool × Fault))
+        → list_any (λ test. test.0) tests ≡ false → first_refusal tests ≡ None }
 {}

@@ -20,7 +20,6 @@ use Rattle.sf_types.specs.declared.call.Call.{Call}
 use Rattle.sf_types.specs.declared.call.Call.TheVariants.{WriteAppend}
 use Rattle.sf_types.specs.declared.history.Kind.TheVariants as kind
 use Rattle.sf_types.specs.Calls.Steps.{part_step, write_step, step}
-use Rattle.sf_types.specs.Orders.Histories.{IsLegalWhere}
 use Rattle.sf_types.specs.Table.Versions.{commit_count, current_value}
 use Rattle.sf_types.proofs.RefusalLemmas.{same_part, some-is, step_refused}
 

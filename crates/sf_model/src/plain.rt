@@ -18,7 +18,7 @@ ghost use Rattle.sf_model.specs.Provisional.{has_step, never_due};
 ghost use Rattle.sf_types.specs.Orders.Histories.{IsLegalWhere, entry_effect};
 
 use crate::locks::Locks;
-use crate::rows::{Rows, changes_of, name_rows, rows_present, value_in, apply_changes};
+use crate::rows::{Rows, apply_changes, changes_of, name_rows, rows_present, value_in};
 use crate::session::Session;
 use crate::value::Value;
 use sf_types::{
@@ -62,12 +62,7 @@ impl Model for Plain {
 }
 
 // Insert of a row that isn't busy and isn't present, or nothing.
-fn insert_into(
-    locks: &mut Locks,
-    part: &mut Session,
-    session: u16,
-    row: &Name,
-) -> Mem<()>
+fn insert_into(locks: &mut Locks, part: &mut Session, session: u16, row: &Name) -> Mem<()>
     requires { is_busy locks.old session row.now ≡ false }
     ensures locks { OnOk result (locks.new ≡ with_lock locks.old session row.now) }
     ensures part { OnOk result (part.new ≡ after_insert part.old row.now) }

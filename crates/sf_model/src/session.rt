@@ -15,7 +15,10 @@ ghost use Rattle.sf_types.specs.Calls.TransactionEnds.{after_commit, after_end};
 use crate::locator::Locator;
 use crate::rows::Rows;
 use crate::value::Value;
-use sf_types::{BUFFER_BYTES, Fault, LocName, Mem, Name, NameMap, OBJECT_BYTES, OutOfMemory, Reply, SESSION_LOCATORS, TryCopy};
+use sf_types::{
+    BUFFER_BYTES, Fault, LocName, Mem, Name, NameMap, OBJECT_BYTES, OutOfMemory, Reply,
+    SESSION_LOCATORS, TryCopy,
+};
 use std::alloc::Global;
 use std::marker::Model;
 use std::mem;

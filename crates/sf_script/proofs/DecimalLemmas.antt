@@ -1,5 +1,5 @@
 -- Reading a number digit by digit.
-use Rattle.std.proofs.Common.{◌≡◌, ℕ, ◌+◌, ◌-◌, ◌*◌, ◌^◌, ◌<◌, ◌≤◌, Bool, true, false, ◌&&◌, cond, ltb, List, [], ◌∷◌, length, get_or, drop, Option, Some, None, refl, sym, ap, ◌∙◌, arith, inl, inr}
+use Rattle.std.proofs.Common.{◌≡◌, ℕ, ◌+◌, ◌-◌, ◌*◌, ◌^◌, ◌<◌, ◌≤◌, Bool, true, false, ◌&&◌, cond, ltb, List, [], ◌∷◌, length, get_or, Option, Some, None, refl, sym, ap, ◌∙◌, arith, inl, inr}
 use Rattle.std.specs.List.{list_all}
 use Rattle.std.proofs.lemmas.Bool.{ltb-true, ltb-false, lt-ltb, le-ltb, and_parts, and_cases, and_left, and_right}
 use Rattle.std.proofs.lemmas.Option.{cond_some}
@@ -65,10 +65,6 @@ below number byte next e =
 pub stops_at : (number : ℕ) (rest : List ℕ) → 1 ≤ length rest → None ≡ with_digit number (get_or rest 0 0) → decimal_from number rest ≡ None
 stops_at number [] le e = absurd (omega arith)
 stops_at number (byte ∷ text) le e = stops number byte text e
-
-pub goes_on_at : (number next : ℕ) (rest : List ℕ) → 1 ≤ length rest → Some next ≡ with_digit number (get_or rest 0 0) → decimal_from number rest ≡ decimal_from next (drop 1 rest)
-goes_on_at number next [] le e = absurd (omega arith)
-goes_on_at number next (byte ∷ text) le e = goes_on number byte next text e
 
 pub ends_at : (number : ℕ) (rest : List ℕ) → length rest < 1 → number < 2 ^ 64 → decimal_from number rest ≡ Some number
 ends_at number [] le lt = ends number lt

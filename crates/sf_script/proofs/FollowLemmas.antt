@@ -16,7 +16,7 @@ use Rattle.sf_script.specs.LineForms.{LineForm, HeaderLine, SetsOption, Sessions
 use Rattle.sf_script.specs.Provisional.Forms.{is_built_plain, is_built_call}
 use Rattle.sf_script.specs.Numbers.{number_of}
 use Rattle.sf_script.specs.Provisional.Calls.{can_stand}
-use Rattle.sf_script.specs.Payloads.{Payload, Text, Hex, Copies, bytes_of, has_hex_digits}
+use Rattle.sf_script.specs.Payloads.{Payload, Text, Hex, Copies, bytes_of}
 use Rattle.sf_script.specs.Reasons.{form_passes_limit}
 use Rattle.sf_script.specs.Provisional.Forms.{form_or_later}
 use Rattle.sf_script.specs.Inside.Readings.{CanFollow}
@@ -83,16 +83,6 @@ with_stands (wants.FragReplace at old_amount offset) payload e = absurd cc
 pub stands : (form : CallForm) → is_built_call form ≡ true → can_stand (spelled_call form) ≡ true
 stands (Plain call) e = plain_stands call e
 stands (WithPayload call payload) e = with_stands call payload e
-
--- the payload of a call that is built has no hex digits
-pub no_hex : (call : PayloadCall) (payload : Payload) → is_built_call (WithPayload call payload) ≡ true → has_hex_digits payload ≡ true
-no_hex call (Text bytes) e = refl
-no_hex call (Copies number byte) e = refl
-no_hex (wants.Instr at offset) (Hex digits) e = absurd cc
-no_hex (wants.Write at offset) (Hex digits) e = absurd cc
-no_hex (wants.WriteAppend at) (Hex digits) e = absurd cc
-no_hex (wants.FragInsert at offset) (Hex digits) e = absurd cc
-no_hex (wants.FragReplace at old_amount offset) (Hex digits) e = absurd cc
 
 not_false : (b : Bool) → not b ≡ false → b ≡ true
 not_false true e = refl

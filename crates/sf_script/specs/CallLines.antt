@@ -12,26 +12,51 @@ CallTable = List (List ℕ × (List ℕ → Option CallForm))
 -- The calls that name a row.
 abbrev pub row_calls : CallTable
 row_calls =
-    (codes "insert", insert_of) ∷ (codes "delete", delete_of) ∷ (codes "lock", lock_of) ∷ (codes "select", select_of) ∷ (codes "asof", asof_of) ∷ []
+    (codes "insert", insert_of)
+    ∷ (codes "delete", delete_of)
+    ∷ (codes "lock", lock_of)
+    ∷ (codes "select", select_of)
+    ∷ (codes "asof", asof_of)
+    ∷ []
 
 -- The calls that have a payload.
 abbrev pub payload_calls : CallTable
 payload_calls =
-    (codes "instr", instr_of) ∷ (codes "write", write_of) ∷ (codes "writeappend", writeappend_of) ∷ (codes "fraginsert", fraginsert_of) ∷ (codes "fragreplace", fragreplace_of) ∷ []
+    (codes "instr", instr_of)
+    ∷ (codes "write", write_of)
+    ∷ (codes "writeappend", writeappend_of)
+    ∷ (codes "fraginsert", fraginsert_of)
+    ∷ (codes "fragreplace", fragreplace_of)
+    ∷ []
 
 -- The calls on a part of a value.
 abbrev pub part_calls : CallTable
 part_calls =
-    (codes "read", read_of) ∷ (codes "erase", erase_of) ∷ (codes "trim", trim_of) ∷ (codes "fragdelete", fragdelete_of) ∷ (codes "fragmove", fragmove_of) ∷ []
+    (codes "read", read_of)
+    ∷ (codes "erase", erase_of)
+    ∷ (codes "trim", trim_of)
+    ∷ (codes "fragdelete", fragdelete_of)
+    ∷ (codes "fragmove", fragmove_of)
+    ∷ []
 
 -- The calls on one or two locators.
 abbrev pub locator_calls : CallTable
 locator_calls =
-    (codes "assign", assign_of) ∷ (codes "free", free_of) ∷ (codes "length", length_of) ∷ (codes "compare", compare_of) ∷ (codes "append", append_of) ∷ (codes "copy", copy_of) ∷ []
+    (codes "assign", assign_of)
+    ∷ (codes "free", free_of)
+    ∷ (codes "length", length_of)
+    ∷ (codes "compare", compare_of)
+    ∷ (codes "append", append_of)
+    ∷ (codes "copy", copy_of)
+    ∷ []
 
 -- The calls on options and savepoints.
 abbrev pub work_calls : CallTable
-work_calls = (codes "setoptions", setoptions_of) ∷ (codes "savepoint", savepoint_of) ∷ (codes "rollback", rollback_to_of) ∷ []
+work_calls =
+    (codes "setoptions", setoptions_of)
+    ∷ (codes "savepoint", savepoint_of)
+    ∷ (codes "rollback", rollback_to_of)
+    ∷ []
 
 -- The form of the call in a table whose first word this is. Where the table has none, it is among the others.
 abbrev pub form_in : CallTable → (List ℕ → List ℕ → Option CallForm) → List ℕ → List ℕ → Option CallForm
@@ -62,6 +87,8 @@ row_form word text = form_in row_calls payload_form word text
 -- The call that a text spells: `commit` and `rollback` stand alone, any other call's first word is in the tables.
 unfoldable pub call_form : List ℕ → Option CallForm
 call_form text =
-    if is_word (codes "commit") text then Some (Plain calls.Commit) else if is_word (codes "rollback") text then Some (Plain calls.Rollback) else (do
+    if is_word (codes "commit") text then Some (Plain calls.Commit)
+    else if is_word (codes "rollback") text then Some (Plain calls.Rollback)
+    else (do
       word ← word_at text
       row_form word.0 word.1)

@@ -1,17 +1,15 @@
 -- The forms of lines. Which form a line has depends on where it stands.
-use Rattle.std.specs.Prelude.{ℕ, Bool, true, false, not, ◌&&◌, ◌==◌, List, Option, Some, None, if◌then◌else◌, codes}
-use Rattle.sf_types.specs.declared.call.Call.{Call}
+use Rattle.std.specs.Prelude.{ℕ, not, ◌&&◌, ◌==◌, List, Option, Some, None, if◌then◌else◌, codes}
 use Rattle.sf_types.specs.declared.call.Call.TheVariants as calls
 use Rattle.sf_script.specs.declared.call.PayloadCall.TheVariants as wants
 use Rattle.sf_script.specs.declared.turn.Turn.{Turn}
 use Rattle.sf_script.specs.declared.reading.Reading.{Reading}
 use Rattle.sf_script.specs.declared.reading.Reading.TheVariants as reads
 use Rattle.sf_script.specs.CallLines.{call_form}
-use Rattle.sf_script.specs.Calls.{CallForm, Plain, WithPayload}
+use Rattle.sf_script.specs.Calls.{CallForm}
 use Rattle.sf_script.specs.Gives.{◌>>=◌}
 use Rattle.sf_script.specs.Numbers.{is_empty_list, number_of}
 use Rattle.sf_script.specs.OptionLines.{OptionLine, option_of}
-use Rattle.sf_script.specs.Payloads.{Text}
 use Rattle.sf_script.specs.Schedules.{session_of, are_turns, turns_of, schedule_words}
 use Rattle.sf_script.specs.Words.{first_word, word_at, is_word}
 

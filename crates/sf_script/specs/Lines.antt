@@ -12,7 +12,8 @@ pub record Line : Type 0 where
 abbrev pub is_line_feed : ℕ → Bool
 is_line_feed byte = byte == 10
 
--- Each part before a line feed is a line. What stands behind the last line feed is a line that isn't ended, unless it is empty.
+-- Each part before a line feed is a line. What stands behind the last line feed is a line that isn't ended, unless it
+-- is empty.
 abbrev pub lines_from : List (List ℕ) → List Line
 lines_from [] = []
 lines_from ([] ∷ []) = []

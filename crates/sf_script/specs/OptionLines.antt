@@ -17,7 +17,8 @@ pub data OptionLine : Type 0 where
 -- Whether a line's first word is an option's.
 abbrev pub is_option_word : List ℕ → Bool
 is_option_word word =
-    is_word (codes "capacity") word || is_word (codes "dedup") word || is_word (codes "retention") word || is_word (codes "gather") word || is_word (codes "dispensers") word
+    is_word (codes "capacity") word || is_word (codes "dedup") word || is_word (codes "retention") word
+    || is_word (codes "gather") word || is_word (codes "dispensers") word
 
 -- A number that an option is set to.
 abbrev pub set_to : (ℕ → OptionLine) → List ℕ → Option OptionLine
@@ -27,7 +28,10 @@ set_to option text = do
 
 -- `on` or `off`
 abbrev pub dedup_of : List ℕ → Option OptionLine
-dedup_of text = if is_word (codes "on") text then Some (Dedup true) else if is_word (codes "off") text then Some (Dedup false) else None
+dedup_of text =
+    if is_word (codes "on") text then Some (Dedup true)
+    else if is_word (codes "off") text then Some (Dedup false)
+    else None
 
 -- A number, or `max`
 abbrev pub retention_of : List ℕ → Option OptionLine
@@ -36,7 +40,12 @@ retention_of text = if is_word (codes "max") text then Some RetentionMax else se
 -- The option of a line's first word and of what stands behind it.
 unfoldable pub option_of : List ℕ → List ℕ → Option OptionLine
 option_of word text =
-    if is_word (codes "capacity") word then set_to Capacity text else if is_word (codes "dedup") word then dedup_of text else if is_word (codes "retention") word then retention_of text else if is_word (codes "gather") word then set_to Gather text else if is_word (codes "dispensers") word then set_to Dispensers text else None
+    if is_word (codes "capacity") word then set_to Capacity text
+    else if is_word (codes "dedup") word then dedup_of text
+    else if is_word (codes "retention") word then retention_of text
+    else if is_word (codes "gather") word then set_to Gather text
+    else if is_word (codes "dispensers") word then set_to Dispensers text
+    else None
 
 -- Whether an option is set to a number in its range.
 abbrev pub is_option_in_range : OptionLine → Bool

@@ -1,5 +1,5 @@
 -- What a script is.
-use Rattle.std.specs.Prelude.{◌≡◌, ℕ, ◌≤◌, Bool, true, false, not, ◌&&◌, nat_le, List, length, IsTrue}
+use Rattle.std.specs.Prelude.{◌≡◌, ℕ, ◌≤◌, Bool, true, ◌&&◌, nat_le, List, length, IsTrue}
 use Rattle.std.specs.List.{list_all, sum_by}
 use Rattle.sf_types.specs.Limits.{IsInRange}
 use Rattle.sf_types.specs.declared.options.Options.{Options}
@@ -10,7 +10,8 @@ use Rattle.sf_script.specs.declared.turn.Turn.TheVariants as turn_kinds
 use Rattle.sf_types.specs.declared.limits.TheConstants.{STORE_SESSIONS}
 use Rattle.sf_script.specs.Provisional.Calls.{can_stand}
 
--- The parts of a script: its options, the number of its sessions, the calls of each session without its End, and its schedule.
+-- The parts of a script: its options, the number of its sessions, the calls of each session without its End, and its
+-- schedule.
 pub record ScriptParts : Type 0 where
   pub options : Options
   pub sessions : ℕ

@@ -49,13 +49,17 @@ has_hex_digits _ = true
 unfoldable pub text_of : List ℕ → Option Payload
 text_of text =
     let inner = slice_range text 1 (length text - 1) in
-    if nat_le 3 (length text) && slice_index text 0 == 34 && slice_index text (length text - 1) == 34 && list_all is_text_byte inner then Some (Text inner) else None
+    if nat_le 3 (length text) && slice_index text 0 == 34 && slice_index text (length text - 1) == 34 && list_all is_text_byte inner
+    then Some (Text inner)
+    else None
 
 -- `xHEX`: an x, and one or more pairs of hex digits.
 unfoldable pub hex_of : List ℕ → Option Payload
 hex_of text =
     let digits = drop 1 text in
-    if nat_le 3 (length text) && slice_index text 0 == 120 && length digits % 2 == 0 && list_all is_hex_digit digits then Some (Hex digits) else None
+    if nat_le 3 (length text) && slice_index text 0 == 120 && length digits % 2 == 0 && list_all is_hex_digit digits
+    then Some (Hex digits)
+    else None
 
 -- `*xHH`: a star, an x, and the two digits of a byte.
 unfoldable pub star_byte_of : List ℕ → Option ℕ

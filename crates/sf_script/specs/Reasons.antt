@@ -1,4 +1,5 @@
--- Why a line is refused, and what a right line adds to what was read before it: nothing, the header alone, or the sessions line with the script so far.
+-- Why a line is refused, and what a right line adds to what was read before it: nothing, the header alone, or the
+-- sessions line with the script so far.
 use Rattle.std.specs.Prelude.{ℕ, ◌+◌, ◌-◌, Bool, false, not, ◌&&◌, ◌||◌, nat_le, nat_lt, List, [], ◌∷◌, ◌++◌, length, replicate, slice_index_or, slice_set, Option, Some, None, is_none, if◌then◌else◌, codes}
 use Rattle.std.specs.List.{list_all}
 use Rattle.std.specs.Option.{option_map_or}
@@ -24,7 +25,8 @@ use Rattle.sf_script.specs.Words.{first_word, is_word}
 unfoldable pub has_wrong_bytes : Line → Bool
 has_wrong_bytes line = not line.ended || not (list_all is_line_byte line.text)
 
--- The first word may not stand here. On line 1 only `securefiles` may, until the sessions line an option's word or `sessions`, and after it a word that ends with a colon or `schedule`.
+-- The first word may not stand here. On line 1 only `securefiles` may, until the sessions line an option's word or
+-- `sessions`, and after it a word that ends with a colon or `schedule`.
 unfoldable pub is_misplaced : Reading → List ℕ → Bool
 is_misplaced reads.Nothing text = not (is_word (codes "securefiles") (first_word text))
 is_misplaced reads.Header text = not (is_option_word (first_word text) || is_word (codes "sessions") (first_word text))
@@ -33,7 +35,9 @@ is_misplaced (reads.Sessions parts) text = not (ends_with_colon (first_word text
 -- The first word of a call line names no session, or a word of a schedule line after the first is no turn.
 unfoldable pub names_no_session : Reading → List ℕ → Bool
 names_no_session (reads.Sessions parts) text =
-    if is_word (codes "schedule") (first_word text) then not (are_turns parts.sessions (schedule_words text)) else is_none (session_of parts.sessions (first_word text))
+    if is_word (codes "schedule") (first_word text)
+    then not (are_turns parts.sessions (schedule_words text))
+    else is_none (session_of parts.sessions (first_word text))
 names_no_session _ text = false
 
 -- The line has none of the forms that may stand here.
@@ -47,9 +51,11 @@ is_not_built reading text = option_map_or (λ form. not (is_built form)) (form_o
 -- A call's payload of so many bytes is too long, or with this call the script has too many calls or payload bytes.
 abbrev pub passes_call_limit : ScriptParts → ℕ → Bool
 passes_call_limit parts bytes =
-    nat_lt BUFFER_BYTES bytes || nat_lt SCRIPT_CALLS (call_count parts.calls + 1) || nat_lt SCRIPT_PAYLOAD_BYTES (payload_bytes parts.calls + bytes)
+    nat_lt BUFFER_BYTES bytes || nat_lt SCRIPT_CALLS (call_count parts.calls + 1)
+    || nat_lt SCRIPT_PAYLOAD_BYTES (payload_bytes parts.calls + bytes)
 
--- A form passes a limit: an option or the number of sessions is out of its range, or the calls, the payload bytes or the turns are too many.
+-- A form passes a limit: an option or the number of sessions is out of its range, or the calls, the payload bytes or
+-- the turns are too many.
 unfoldable pub form_passes_limit : Reading → LineForm → Bool
 form_passes_limit reading HeaderLine = false
 form_passes_limit reading (SetsOption option) = not (is_option_in_range option)

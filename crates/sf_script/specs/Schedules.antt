@@ -24,7 +24,9 @@ session_of sessions word = if ends_with_colon word then session_number sessions 
 -- The turn that a word spells: `r`, `shrink` or the number of a session.
 unfoldable pub turn_of : ℕ → List ℕ → Option Turn
 turn_of sessions word =
-    if is_word (codes "r") word then Some turn_kinds.Reclaim else if is_word (codes "shrink") word then Some turn_kinds.Shrink else (do
+    if is_word (codes "r") word then Some turn_kinds.Reclaim
+    else if is_word (codes "shrink") word then Some turn_kinds.Shrink
+    else (do
       session ← session_number sessions word
       Some (turn_kinds.Session session))
 

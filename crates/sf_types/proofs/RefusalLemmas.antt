@@ -1,8 +1,7 @@
 -- A refused call changes nothing.
-use Rattle.std.proofs.Common.{◌≡◌, ℕ, ◌+◌, ◌-◌, ◌<◌, Bool, true, false, ◌&&◌, cond, IsTrue, List, [], length, get_or, Option, Some, None, refl, ap, ◌∙◌, arith}
-use Rattle.std.specs.Prelude.{unwrap_or, nat_le, slice_set, find}
+use Rattle.std.proofs.Common.{◌≡◌, ℕ, ◌+◌, ◌-◌, ◌<◌, Bool, true, false, ◌&&◌, cond, IsTrue, List, [], length, get_or, Option, Some, None, refl, ap, ◌∙◌}
+use Rattle.std.specs.Prelude.{unwrap_or, slice_set, find}
 use Rattle.std.specs.Option.{option_map_or}
-use Rattle.std.proofs.lemmas.Bool.Decides.{nat_tests}
 use Rattle.std.proofs.lemmas.Option.{slice_get-get_or}
 use Rattle.std.proofs.lemmas.List.{set-get_or}
 use Rattle.sf_types.proofs.NumberLemmas.{one_less}

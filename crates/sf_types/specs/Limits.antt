@@ -1,5 +1,5 @@
 -- The ranges of the options and their defaults (our own). The limits are the constants of src/limits.rt.
-use Rattle.std.specs.Prelude.{◌≡◌, ℕ, ◌≤◌, true, false, IsTrue}
+use Rattle.std.specs.Prelude.{◌≡◌, ◌≤◌, true, false, IsTrue}
 use Rattle.sf_types.specs.declared.limits.TheConstants.{STORE_BLOCKS, RETAINED_COMMITS, LEAST_GATHER_BYTES, MOST_GATHER_BYTES, STORE_DISPENSERS}
 use Rattle.sf_types.specs.declared.options.Options.{Options}
 

@@ -1,13 +1,12 @@
 -- From what was read to what is read with one more line.
 use Rattle.std.specs.Prelude.{◌≡◌, ℕ, ◌≤◌, IsTrue, false, Option, Some, None, Result, Ok, Err, if◌then◌else◌}
 use Rattle.sf_script.specs.declared.fault.Reason.{Reason}
-use Rattle.sf_script.specs.declared.fault.Reason.TheVariants.{Form, Later}
 use Rattle.sf_script.specs.declared.reading.Reading.{Reading}
 use Rattle.sf_script.specs.declared.reading.Reading.TheVariants as reads
 use Rattle.sf_script.specs.Calls.{CallForm, spelled_call}
 use Rattle.sf_types.specs.declared.limits.TheConstants.{STORE_SESSIONS}
 use Rattle.sf_script.specs.LineForms.{LineForm, SessionsLine, CallLine}
-use Rattle.sf_script.specs.Provisional.Forms.{is_built_call, is_built}
+use Rattle.sf_script.specs.Provisional.Forms.{is_built_call}
 use Rattle.sf_script.specs.Lines.{Line}
 use Rattle.sf_script.specs.Parts.{ScriptParts, payload_length}
 use Rattle.sf_script.specs.Reasons.{reason_of, passes_call_limit, after_line}
