@@ -215,8 +215,8 @@ unfoldable pub setoptions_of : List ℕ → Option CallForm
 setoptions_of text = do
   at ← loc_at text
   if is_word (codes "dedup on") at.1 then Some (Plain (calls.SetOptions at.0 true))
-  else if is_word (codes "dedup off") at.1 then Some (Plain (calls.SetOptions at.0 false))
-  else None
+      else if is_word (codes "dedup off") at.1 then Some (Plain (calls.SetOptions at.0 false))
+      else None
 
 -- NAME
 unfoldable pub savepoint_of : List ℕ → Option CallForm
