@@ -35,19 +35,7 @@ pub record AreOut (space : FreeSpace) (blocks : List ℕ) : Type 0 where
 abbrev pub AreApart : List Run → List Run → Type 0
 AreApart runs others = (block : ℕ) → (has_block runs block && has_block others block) ≡ false
 
--- Runs with the blocks of some others beside their own. Where they were the maximal runs of their blocks, they are so
--- again.
+-- Runs with the blocks of some others beside their own.
 pub record Gains (runs more gained : List Run) : Type 0 where
   pub blocks : (block : ℕ) → has_block more block ≡ (has_block runs block || has_block gained block)
   pub count : length (blocks_in more) ≡ length (blocks_in runs) + length (blocks_in gained)
-  pub kept : (capacity : ℕ) → AreFreeRuns capacity runs → All (λ block. block < capacity) (blocks_in gained) → AreFreeRuns capacity more
-
--- The first run, where there is one, begins at this block or later.
-abbrev pub BeginsFrom : ℕ → List Run → Type 0
-BeginsFrom block [] = Unit {0}
-BeginsFrom block (run ∷ runs) = block ≤ run.first
-
--- The lowest block at which a run may begin that follows these ones and doesn't touch them.
-abbrev pub past : ℕ → List Run → ℕ
-past from [] = from
-past from (run ∷ runs) = past (run.first + run.blocks + 1) runs

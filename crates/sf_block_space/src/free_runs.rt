@@ -1,60 +1,47 @@
 //! Free blocks.
-ghost use Rattle.std.specs.Prelude.{◌≡◌, ◌≤◌, length, IfOk, OnOk, OnErr};
+ghost use Rattle.std.specs.Prelude.{◌≡◌, ◌+◌, ◌-◌, ◌≤◌, length, IfOk, OnOk, OnErr};
 ghost use Rattle.std.specs.List.{range_with_len};
 ghost use Rattle.sf_types.specs.Space.BlockRuns.{blocks_in};
 ghost use Rattle.sf_types.specs.Rooms.{MakesRoom, GrowsWithin};
 ghost use Rattle.sf_block_space.specs.Free.{AreFreeRuns, AreOut, Gains};
-ghost use Rattle.sf_block_space.specs.Grants.{IsGrant, Loses};
+ghost use Rattle.sf_block_space.specs.Grants.{IsGrant};
 
-use crate::grants::{room_for, take_runs};
-use crate::returns::put_runs;
-use sf_types::{Mem, Run, Runs};
+use crate::maximal_runs::MaximalRuns;
+use sf_types::{Mem, Runs};
 use std::alloc::Global;
 use std::marker::Model;
 
 /// The free blocks of a store below its capacity, seen as the list of their maximal runs, with room for more runs. A block
-/// is a number from 0 up to the capacity, which isn't reached, and a store's capacity is 1 to 65,536 (our own, after VLDB
-/// 2008).
+/// is a number from 0 up to the capacity, which isn't reached.
 #[derive(Debug, Drop)]
 pub struct FreeRuns {
-    runs: Vec<Run>,
-    capacity: u32,
+    runs: MaximalRuns,
     free: u64,
 }
 
 impl Model for FreeRuns {
-    ghost use Rattle.std.specs.Prelude.{◌≡◌, ◌-◌, length, vec_capacity, vec_len};
+    ghost use Rattle.std.specs.Prelude.{◌≡◌, length};
     ghost use Rattle.sf_types.specs.Space.BlockRuns.{blocks_in};
     ghost use Rattle.sf_types.specs.Rooms.{Roomy};
-    ghost use Rattle.sf_block_space.specs.Free.{FreeSpace, AreFreeRuns};
+    ghost use Rattle.sf_block_space.specs.Free.{FreeSpace};
 
     ghost Value = { Roomy FreeSpace };
 
-    ghost view = { λ free. record {
-      held = record { capacity = free.capacity; runs = free.runs.items };
-      spare = vec_capacity free.runs - vec_len free.runs;
-    } };
+    ghost view = { λ free. free.runs };
 
-    ghost invariant = { λ free. AreFreeRuns free.capacity free.runs.items × (free.free ≡ length (blocks_in free.runs.items)) };
+    ghost invariant = { λ free. free.free ≡ length (blocks_in free.runs.held.runs) };
 }
 
 impl FreeRuns {
-    /// All blocks below the capacity, a number of blocks, are free.
+    /// All blocks below the capacity, a number of blocks, are free. There is no room for more runs.
     pub fn all(alloc: Global, capacity: u32) -> Mem<FreeRuns>
         ensures capacity { IfOk result (λ free. free.held.capacity ≡ capacity) }
         ensures blocks { IfOk result (λ free. blocks_in free.held.runs ≡ range_with_len 0 capacity) }
         ensures order { IfOk result (λ free. AreFreeRuns capacity free.held.runs) }
+        ensures spare { IfOk result (λ free. free.spare ≡ 0) }
     {
-        let mut runs = Vec::new(alloc);
-        if capacity > 0 {
-            runs.push(Run {
-                first: 0,
-                blocks: capacity,
-            })?;
-        }
         Ok(FreeRuns {
-            runs,
-            capacity,
+            runs: MaximalRuns::all(alloc, capacity)?,
             free: u64::from(capacity),
         })
     }
@@ -70,28 +57,32 @@ impl FreeRuns {
     pub fn make_room(&mut self, runs: u64) -> Mem<()>
         ensures { MakesRoom self.old self.new runs result }
     {
-        self.runs.reserve(runs as usize)?;
-        Ok(())
+        self.runs.make_room(runs as usize)
     }
 
     /// Takes n free blocks: the first n of the lowest run with at least n blocks; where there is none, the whole of the
     /// longest run, the lowest of equals, and then the others in the same way. n is at most the number of free blocks.
-    /// After want of memory nothing has changed.
+    /// The free blocks were those that are left and those that are granted. After want of memory nothing has changed.
     pub fn grant(&mut self, n: u64) -> Mem<Runs>
         requires { n ≤ length (blocks_in self.old.held.runs) }
         ensures granted { IfOk result (λ granted. IsGrant self.old.held.runs n granted.held) }
         ensures count { IfOk result (λ granted. length (blocks_in granted.held) ≡ n) }
         ensures out { IfOk result (λ granted. AreOut self.new.held (blocks_in granted.held)) }
-        ensures left { IfOk result (λ granted. Loses self.old.held.runs self.new.held.runs granted.held) }
+        ensures left { IfOk result (λ granted. Gains self.new.held.runs self.old.held.runs granted.held) }
         ensures order { AreFreeRuns self.new.held.capacity self.new.held.runs }
         ensures capacity { self.new.held.capacity ≡ self.old.held.capacity }
-        ensures spare { self.old.spare ≤ self.new.spare }
+        ensures spare { self.new.spare ≡ self.old.spare + (length self.old.held.runs - length self.new.held.runs) }
         ensures err { OnErr result (self.new.held ≡ self.old.held) }
     {
-        let mut granted = Runs::new(*self.runs.allocator());
-        granted.make_room(room_for(&self.runs, n))?;
-        take_runs(&mut self.runs, n, &mut granted);
-        self.free -= n;
+        let mut granted = Runs::new(self.runs.allocator());
+        granted.make_room(self.runs.room_for(n))?;
+        let mut rest = n;
+        while rest > 0 {
+            let run = self.runs.take_run(rest);
+            rest -= u64::from(run.blocks);
+            self.free -= u64::from(run.blocks);
+            granted.push_within(run);
+        }
         Ok(granted)
     }
 
@@ -102,10 +93,15 @@ impl FreeRuns {
         ensures ok { OnOk result (Gains self.old.held.runs self.new.held.runs runs.now.held) }
         ensures order { AreFreeRuns self.new.held.capacity self.new.held.runs }
         ensures capacity { self.new.held.capacity ≡ self.old.held.capacity }
-        ensures room { GrowsWithin self.old self.new (length runs.now.held) result }
+        ensures room { GrowsWithin self.old self.new (length runs.now.held) (length self.new.held.runs - length self.old.held.runs) result }
     {
-        self.runs.reserve(runs.len())?;
-        self.free += put_runs(&mut self.runs, runs.as_slice());
+        self.runs.make_room(runs.len())?;
+        for run in runs.as_slice() {
+            if run.blocks > 0 {
+                self.runs.put(*run);
+                self.free += u64::from(run.blocks);
+            }
+        }
         Ok(())
     }
 }

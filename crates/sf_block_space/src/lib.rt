@@ -2,8 +2,7 @@
 #![tactic(auto)]
 
 mod free_runs;
-mod grants;
-mod returns;
+mod maximal_runs;
 
 pub use free_runs::FreeRuns;
 

@@ -1,6 +1,6 @@
-ghost use Rattle.std.specs.Prelude.{OnOk};
+ghost use Rattle.std.specs.Prelude.{◌≡◌, ◌≤◌, length, OnOk};
 ghost use Rattle.sf_types.specs.Space.BlockRuns.{blocks_in};
-ghost use Rattle.sf_block_space.specs.Free.{AreOut, AreApart};
+ghost use Rattle.sf_block_space.specs.Free.{AreApart, AreFreeRuns, AreOut};
 
 use crate::free_runs::FreeRuns;
 use sf_types::{Mem, OutOfMemory, Runs};
@@ -92,15 +92,15 @@ fn grant(space: &mut FreeRuns, n: u64) -> Mem<Runs> {
 // Pieces of the space, the blocks to be granted, the runs of that grant, and those of a grant of all others then.
 type Row<'a> = (&'a [(u64, Fate)], u64, &'a [(u32, u32)], &'a [(u32, u32)]);
 
-fn check(rt: &impl Abort, granted: &Runs, wanted: &[(u32, u32)], row: usize) {
-    assert_eq!(rt; granted.len(), wanted.len(), "row {row}");
-    for (run, (first, blocks)) in granted.as_slice().iter().zip(wanted) {
+fn check(rt: &impl Abort, granted: &Runs, expected: &[(u32, u32)], row: usize) {
+    assert_eq!(rt; granted.len(), expected.len(), "row {row}");
+    for (run, (first, blocks)) in granted.as_slice().iter().zip(expected) {
         assert_eq!(rt; run.first, *first, "row {row}");
         assert_eq!(rt; run.blocks, *blocks, "row {row}");
     }
 }
 
-// By *Grant*, worked out by hand.
+// First fit takes from the lowest run that has enough. Where none has, the longest run goes first, the lowest of equals.
 const ROWS: [Row<'static>; 10] = [
     // first fit, though a later run fits exactly
     (
@@ -222,14 +222,36 @@ const ROWS: [Row<'static>; 10] = [
 
 #[test]
 fn grants_by_the_rule(rt: HostRuntime) -> Result<(), Fail> {
-    for (row, (pieces, n, wanted, others)) in ROWS.iter().enumerate() {
-        let mut space = space_of(rt.alloc(), pieces).ok().ok_or("memory")?;
-        let granted = grant(&mut space, *n).ok().ok_or("memory")?;
-        check(&rt, &granted, wanted, row);
+    for (row, (pieces, n, first, others)) in ROWS.iter().enumerate() {
+        let mut space = space_of(rt.alloc(), pieces)?;
+        let granted = grant(&mut space, *n)?;
+        check(&rt, &granted, first, row);
         let rest = space.free();
-        let last = grant(&mut space, rest).ok().ok_or("memory")?;
+        let last = grant(&mut space, rest)?;
         check(&rt, &last, others, row);
         assert_eq!(rt; space.free(), 0, "row {row}");
     }
+    Ok(())
+}
+
+// What is granted and comes back within the room leaves the free runs as they were.
+fn grant_and_return(space: &mut FreeRuns, n: u64) -> Mem<()>
+    requires enough { n ≤ length (blocks_in space.old.held.runs) }
+    requires order { AreFreeRuns space.old.held.capacity space.old.held.runs }
+    ensures { OnOk result (space.new.held ≡ space.old.held) }
+{
+    let granted = space.grant(n)?;
+    space.make_room(granted.len() as u64)?;
+    space.give_back(&granted).unwrap();
+    Ok(())
+}
+
+#[test]
+fn comes_back_within_room(rt: HostRuntime) -> Result<(), Fail> {
+    let mut space = FreeRuns::all(rt.alloc(), 7)?;
+    if 5 <= space.free() {
+        grant_and_return(&mut space, 5)?;
+    }
+    assert_eq!(rt; space.free(), 7);
     Ok(())
 }

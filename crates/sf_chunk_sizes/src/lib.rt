@@ -3,7 +3,7 @@
 
 mod contents;
 
-pub use contents::{BLOCK_BYTES, CONTENT_BYTES, blocks, cut};
+pub use contents::{blocks, cut};
 
 #[cfg(test)]
 mod tests;

@@ -15,7 +15,7 @@ fn cuts_runs(rt: HostRuntime) -> Result<(), Fail> {
     ];
     for (length, lengths, total) in rows {
         let bytes = vec![in alloc; 65u8; length]?;
-        let contents = cut(alloc, &bytes).ok().ok_or("memory")?;
+        let contents = cut(alloc, &bytes)?;
         assert_eq!(rt; contents.len(), lengths.len(), "{length}");
         for (content, wanted) in contents.as_slice().iter().zip(lengths) {
             assert_eq!(rt; content.len(), *wanted, "{length}");

@@ -1,2 +1,2 @@
-pub mod Puts
-pub mod Splits
+pub mod BatchLemmas
+pub mod ParkLemmas

@@ -5,6 +5,7 @@ mod committed;
 mod queue;
 
 pub use committed::Committed;
+pub use queue::GREATEST_BLOCK;
 
 #[cfg(test)]
 mod tests;

@@ -1,36 +1,37 @@
-ghost use Rattle.std.specs.Prelude.{◌≡◌, ◌+◌, ◌*◌, ◌-◌, ◌≤◌, ◌<◌, ◌^◌, length, min, IfOk, OnOk};
+ghost use Rattle.std.specs.Prelude.{◌≡◌, ◌+◌, ◌≤◌, ◌<◌, ◌^◌, length, OnOk};
+ghost use Rattle.sf_types.specs.Space.BlockRuns.{blocks_in};
 
 use crate::committed::Committed;
+use crate::queue::GREATEST_BLOCK;
 use sf_types::{Mem, Run, Runs};
 use std::alloc::Global;
 use std::test::*;
 
-// Parks one run.
+// Parks one run. With the room that was made, parking wants no memory.
 fn park_run(alloc: Global, committed: &mut Committed, first: u32, blocks: u32) -> Mem<()>
-    requires below { first + blocks ≤ 2 ^ 32 }
-    requires few { length committed.old.held + blocks < 2 ^ 64 }
-    ensures { OnOk result (length committed.new.held ≡ length committed.old.held + blocks) }
+    requires numbers { first + blocks ≤ GREATEST_BLOCK + 1 }
+    requires few { length (blocks_in committed.old.held) + blocks < 2 ^ 64 }
+    ensures { OnOk result (length (blocks_in committed.new.held) ≡ length (blocks_in committed.old.held) + blocks) }
 {
     let mut runs = Runs::new(alloc);
     runs.push(Run { first, blocks })?;
-    committed.park(&runs)?;
+    committed.make_room(1)?;
+    committed.park(&runs).unwrap();
     Ok(())
 }
 
-// Takes a batch into a list of runs.
+// Takes a batch with just the room that it needs.
 fn take(committed: &mut Committed, max: u64, into: &mut Runs) -> Mem<u64>
-    requires { max < 2 ^ 32 }
-    ensures { length committed.new.held ≤ length committed.old.held }
+    ensures { length (blocks_in committed.new.held) ≤ length (blocks_in committed.old.held) }
 {
-    into.make_room(2 * max)?;
+    into.make_room(max.min(committed.run_count() as u64))?;
     Ok(committed.take_batch(max, into))
 }
 
 // Blocks come out first in and first out, and a run is split where the batch ends in it.
 fn parked_and_taken(alloc: Global) -> Mem<Runs> {
-    let mut committed = Committed::new(alloc)?;
+    let mut committed = Committed::new(alloc);
     let mut into = Runs::new(alloc);
-    committed.make_room(4)?;
     park_run(alloc, &mut committed, 5, 3)?;
     park_run(alloc, &mut committed, 9, 0)?;
     park_run(alloc, &mut committed, 0, 2)?;
@@ -43,12 +44,23 @@ fn parked_and_taken(alloc: Global) -> Mem<Runs> {
 
 #[test]
 fn parks_and_takes(rt: HostRuntime) -> Result<(), Fail> {
-    let runs = parked_and_taken(rt.alloc()).ok().ok_or("memory")?;
-    let wanted = [(5, 3), (0, 1), (1, 1), (20, 1)];
-    assert_eq!(rt; runs.len(), wanted.len());
-    for (run, (first, blocks)) in runs.as_slice().iter().zip(wanted) {
+    let runs = parked_and_taken(rt.alloc())?;
+    let expected = [(5, 3), (0, 1), (1, 1), (20, 1)];
+    assert_eq!(rt; runs.len(), expected.len());
+    for (run, (first, blocks)) in runs.as_slice().iter().zip(expected) {
         assert_eq!(rt; run.first, first);
         assert_eq!(rt; run.blocks, blocks);
     }
+    Ok(())
+}
+
+#[test]
+fn counts_blocks_and_runs(rt: HostRuntime) -> Result<(), Fail> {
+    let alloc = rt.alloc();
+    let mut committed = Committed::new(alloc);
+    park_run(alloc, &mut committed, 7, 5)?;
+    park_run(alloc, &mut committed, 3, 0)?;
+    assert_eq!(rt; committed.parked(), 5);
+    assert_eq!(rt; committed.run_count(), 1);
     Ok(())
 }

@@ -97,3 +97,16 @@ either false b is = inr is
 pub not_not : (b : Bool) → not b ≡ false → b ≡ true
 not_not true is = refl
 not_not false is = absurd cc
+
+-- neither of two holds
+pub neither-first : (a b : Bool) → (a || b) ≡ false → a ≡ false
+neither-first true b none = none
+neither-first false b none = refl
+
+-- the last one before the middle one
+pub or-last : (a b c : Bool) → ((a || b) || c) ≡ (a || (c || b))
+or-last true b c = refl
+or-last false true true = refl
+or-last false true false = refl
+or-last false false true = refl
+or-last false false false = refl

@@ -1,5 +1,5 @@
 -- Runs of blocks, which count from 0 (our own).
-use Rattle.std.specs.Prelude.{◌≢◌, ℕ, ◌+◌, ◌≤◌, List, [], ◌∷◌, flat_map}
+use Rattle.std.specs.Prelude.{◌≢◌, ℕ, ◌+◌, ◌-◌, ◌≤◌, List, [], ◌∷◌, flat_map}
 use Rattle.std.specs.List.{range_with_len}
 use Rattle.sf_types.specs.declared.run.Run.{Run}
 
@@ -16,3 +16,11 @@ abbrev pub AreRuns : List Run → Type 0
 AreRuns [] = Unit {0}
 AreRuns (run ∷ []) = 1 ≤ run.blocks
 AreRuns (run ∷ next ∷ runs) = (1 ≤ run.blocks) × (next.first ≢ run.first + run.blocks) × AreRuns (next ∷ runs)
+
+-- The first n blocks of a run.
+abbrev pub front_of : Run → ℕ → Run
+front_of run n = record { first = run.first; blocks = n }
+
+-- The blocks of a run behind its first n.
+abbrev pub rest_of : Run → ℕ → Run
+rest_of run n = record { first = run.first + n; blocks = run.blocks - n }

@@ -4,7 +4,8 @@ use Rattle.sf_types.specs.declared.run.Run.{Run}
 use Rattle.sf_types.specs.Space.BlockRuns.{blocks_in}
 use Rattle.sf_block_space.specs.Free.{AreApart, AreOut, has_block}
 use Rattle.sf_types.proofs.BoolLemmas.{and-turned}
-use Rattle.sf_block_space.proofs.Out.{more-out, granted-apart}
+use Rattle.sf_block_space.proofs.OutLemmas.{more-out}
+use Rattle.sf_block_space.proofs.TestLemmas.{granted-apart}
 use Rattle.sf_block_space.proofs.tests.set_aside.Goals as goal
 
 pub returns-clause-into : goal.returns-clause-into
@@ -13,7 +14,7 @@ returns-clause-into c =
     let granted = c.in_ok-granted.granted.held in
     let is : c.loop-run.into.held ≡ old ++ granted = c.loop-run.invariant ∙ ap (λ (xs : List Run). old ++ xs) (take_all c.loop-run.run-index c.as_slice-run-items.result.now c.loop-run-test.false ∙ c.as_slice-run-items.ensures) in
     subst (λ (xs : List Run). AreOut c.grant.new.self.held (blocks_in xs)) (sym is)
-    (more-out c.args.space.now.held c.grant.new.self.held granted old c.in_ok-granted.ensures.capacity c.in_ok-granted.ensures.left c.requires.into c.in_ok-granted.ensures.out)
+    (more-out c.args.space.now.held c.grant.new.self.held old granted c.in_ok-granted.ensures.capacity c.in_ok-granted.ensures.left c.requires.into c.in_ok-granted.ensures.out)
 
 pub returns-clause-apart : goal.returns-clause-apart
 returns-clause-apart c =
@@ -21,7 +22,7 @@ returns-clause-apart c =
     let granted = c.in_ok-granted.granted.held in
     let is : c.loop-run.into.held ≡ old ++ granted = c.loop-run.invariant ∙ ap (λ (xs : List Run). old ++ xs) (take_all c.loop-run.run-index c.as_slice-run-items.result.now c.loop-run-test.false ∙ c.as_slice-run-items.ensures) in
     subst (λ (xs : List Run). AreApart xs c.args.other.now.held) (sym is)
-    (granted-apart c.args.space.now.held c.grant.new.self.held granted old c.args.other.now.held c.in_ok-granted.ensures.left c.requires.other c.requires.apart)
+    (granted-apart c.args.space.now.held c.grant.new.self.held old granted c.args.other.now.held c.in_ok-granted.ensures.left c.requires.other c.requires.apart)
 
 pub returns-clause-turned : goal.returns-clause-turned
 returns-clause-turned c block =

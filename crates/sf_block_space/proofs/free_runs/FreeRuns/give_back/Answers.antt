@@ -1,22 +1,56 @@
-use Rattle.std.proofs.Common.{◌≡◌, List, ◌-◌, ◌<◌, ◌^◌, ap, sym, subst, length, rules, arith}
-use Rattle.std.specs.Prelude.{All}
-use Rattle.sf_types.specs.declared.run.Run.{Run}
-use Rattle.sf_types.specs.Space.BlockRuns.{blocks_in}
-use Rattle.sf_block_space.specs.Free.{AreFreeRuns}
-use Rattle.sf_block_space.proofs.Order.{within-more, count-within}
+use Rattle.std.proofs.Common.{length, get_or, ap, rules, arith}
+use Rattle.std.proofs.lemmas.List.{append-nil}
+use Rattle.std.proofs.lemmas.List.FromFn.{length-range_with_len}
+use Rattle.sf_types.specs.Space.BlockRuns.{blocks_in, blocks_in_run}
+use Rattle.sf_types.proofs.RunLemmas.{no_run}
+use Rattle.sf_block_space.specs.Free.{AreOut}
+use Rattle.sf_block_space.proofs.GivenLemmas.{next-out, takes-more, takes-nothing}
+use Rattle.sf_block_space.proofs.OrderLemmas.{count-within}
+use Rattle.sf_block_space.proofs.free_runs.FreeRuns.give_back.Goals.{then-run-gt0, else-run-gt0}
 use Rattle.sf_block_space.proofs.free_runs.FreeRuns.give_back.Goals as goal
 
-pub put_runs-requires-clause-free : goal.put_runs-requires-clause-free
-put_runs-requires-clause-free c =
-    rw c.in_ok-reserve.ensures.items (within-more 0 c.self.inside.capacity (2 ^ 32 - 1) c.self.inside.runs.items (search rules) c.self.invariant.0)
+pub put-requires-clause-out : goal.put-requires-clause-out
+put-requires-clause-out c =
+    let given = c.as_slice-run-items.result.now in
+    let out : AreOut c.make_room.new.self.held (blocks_in given) = search rules in
+    next-out c.make_room.new.self c.loop-run.self-inside.runs given c.loop-run.run-index c.loop-run-test.true out c.loop-run.invariant.back
 
 pub overflow_add-self : goal.overflow_add-self
 overflow_add-self c =
-    let capacity = c.self.inside.capacity in
-    let kept = c.in_ok-reserve.ensures.items in
-    let put = c.put_runs.ensures.put in
-    let old = subst (AreFreeRuns capacity) (sym kept) c.self.invariant.0 in
-    let below : All (λ block. block < capacity) (blocks_in c.as_slice.result.now) = search rules in
-    let small : capacity < 2 ^ 32 = search rules in
-    let counted : c.self.inside.free ≡ length (blocks_in c.self.inside.runs.items) = c.self.invariant.1 in
-    omega (arith, small, count-within 0 capacity c.put_runs.new.runs.items (put.kept capacity old below), put.count, c.put_runs.ensures.count, counted, ap (λ (xs : List Run). length (blocks_in xs)) kept)
+    let put = c.put.ensures in
+    let run = get_or c.as_slice-run-items.result.now c.loop-run.run-index no_run in
+    omega (
+      arith,
+      c.make_room.ensures.capacity,
+      c.loop-run.invariant.back.capacity,
+      put.capacity,
+      count-within 0 c.put.new.self.held.capacity c.put.new.self.held.runs put.order,
+      put.blocks.count,
+      c.loop-run.invariant.count,
+      c.from.ensures,
+      ap length (append-nil (blocks_in_run run)),
+      length-range_with_len run.first run.blocks,
+    )
+
+pub loop-run-preserved : goal.loop-run-preserved
+loop-run-preserved c =
+    let given = c.as_slice-run-items.result.now in
+    let k = c.loop-run.run-index in
+    let run = get_or given k no_run in
+    let old = c.loop-run.invariant in
+    let first = c.make_room.new.self in
+    let space = c.loop-run.self-inside.runs in
+    elim c.if-run-gt0.branch [
+      | then-run-gt0 w ↦
+          rw w.self-inside-is
+          (record {
+            back = takes-more first space w.put.new.self given k c.loop-run-test.true old.back w.put.ensures;
+            count = omega (arith, old.count, w.put.ensures.blocks.count, w.from.ensures, ap length (append-nil (blocks_in_run run)), length-range_with_len run.first run.blocks);
+          })
+      | else-run-gt0 w ↦
+          rw w.self-inside-is
+          (record {
+            back = takes-more first space space given k c.loop-run-test.true old.back (takes-nothing space run old.back.order w.if-run-gt0.false);
+            count = old.count;
+          })
+    ]
