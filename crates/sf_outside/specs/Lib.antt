@@ -1,5 +1,6 @@
 pub mod Causes
 pub mod CallCounts
+pub mod Faults
 pub mod Kept
 pub mod MemorySink
 pub mod MemorySource

@@ -2,6 +2,7 @@
 ghost use Rattle.std.specs.Prelude.{◌≡◌, ◌≤◌, ◌↔◌, IsTrue, if◌then◌else◌};
 ghost use Rattle.sf_outside.specs.CallCounts.{no_calls, NextFails, after_success, after_fault};
 
+use crate::fault_count::FaultCount;
 use std::marker::Model;
 
 /// Counts the calls of an object in memory, and those of them that failed.
@@ -9,7 +10,7 @@ use std::marker::Model;
 pub struct CallCounts {
     failing: Vec<u64>,
     calls: u64,
-    faults: u64,
+    faults: FaultCount,
 }
 
 impl Model for CallCounts {
@@ -28,20 +29,22 @@ impl CallCounts {
         CallCounts {
             failing,
             calls: 0,
-            faults: 0,
+            faults: FaultCount::new(),
         }
     }
 
     /// Counts a call, and says whether it fails.
     pub fn next_fails(&mut self) -> bool
         ensures fails { IsTrue result ↔ NextFails self.old }
-        ensures later { self.old.faults ≤ self.new.faults }
+        ensures later { self.old.faults.count ≤ self.new.faults.count }
         ensures after { self.new ≡ (if result then after_fault self.old else after_success self.old) }
     {
         self.calls = self.calls.saturating_add(1);
         let fails = self.failing.contains(&self.calls);
         if fails {
-            self.faults = self.faults.saturating_add(1);
+            self.faults.note_fault();
+        } else {
+            self.faults.note_success();
         }
         fails
     }

@@ -1,12 +1,13 @@
 //! What a program reads from and writes to: the traits, the ones in memory, and std's.
 //!
-//! The rules of these traits are this project's own. An object counts its faults, and a call
-//! answers `Failed` only where that count rose: it is then greater than at the call's start, or
-//! stands at 2^64 - 1, the last value of a counter.
+//! The rules of these traits are our own. An object counts its faults and tells whether its last
+//! call failed. A call answers `Failed` exactly where that count rose by one, or stands at
+//! 2^64 - 1, the last value of a counter.
 #![tactic(auto)]
 
 mod call_counts;
 mod failed;
+mod fault_count;
 mod kept;
 mod memory_sink;
 mod memory_source;
@@ -20,7 +21,7 @@ pub use memory_sink::MemSink;
 pub use memory_source::MemSource;
 pub use sink::Sink;
 pub use source::Source;
-pub use standard::{StdSink, StdSource};
+pub use standard::StdStream;
 pub use sure::{SureSink, SureSource};
 
 #[cfg(test)]

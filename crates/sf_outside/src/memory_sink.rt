@@ -1,5 +1,5 @@
 //! A sink in memory, whose calls fail where a test wants.
-ghost use Rattle.std.specs.Prelude.{◌≡◌, ◌≤◌, ◌↔◌, IsErr, IfOk};
+ghost use Rattle.std.specs.Prelude.{◌≡◌, ◌≤◌, ◌↔◌, IsErr, is_err, IfOk};
 ghost use Rattle.sf_outside.specs.Causes.{HasCause};
 ghost use Rattle.sf_outside.specs.CallCounts.{no_calls, NextFails};
 ghost use Rattle.sf_outside.specs.Kept.{nothing_kept, told_bytes};
@@ -65,14 +65,17 @@ impl MemSink {
 impl Sink for MemSink {
     ghost taken = { λ s. told_bytes s.kept };
 
-    ghost faults = { λ s. s.counts.faults };
+    ghost faults = { λ s. s.counts.faults.count };
+
+    ghost has_failed = { λ s. s.counts.faults.has_failed };
 
     /// Takes as many bytes as the piece has and a call moves.
     fn write(&mut self, piece: &[u8]) -> Result<usize, Failed>
         // What any sink keeps.
         ensures bound { TakesSome result piece.now }
         ensures bytes { TakesFirst (told_bytes self.old.kept) (told_bytes self.new.kept) result piece.now }
-        ensures cause { HasCause self.old.counts.faults self.new.counts.faults result }
+        ensures cause { HasCause self.old.counts.faults.count self.new.counts.faults.count result }
+        ensures last { self.new.counts.faults.has_failed ≡ is_err result }
 
         // What this one does besides.
         ensures fails { IsErr result ↔ NextFails self.old.counts }

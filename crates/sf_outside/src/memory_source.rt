@@ -1,5 +1,5 @@
 //! A source in memory, whose calls fail where a test wants.
-ghost use Rattle.std.specs.Prelude.{◌≡◌, ◌≤◌, ◌↔◌, Some, IsErr, IfOk};
+ghost use Rattle.std.specs.Prelude.{◌≡◌, ◌≤◌, ◌↔◌, Some, IsErr, is_err, IfOk};
 ghost use Rattle.sf_outside.specs.Causes.{HasCause};
 ghost use Rattle.sf_outside.specs.CallCounts.{no_calls, NextFails};
 ghost use Rattle.sf_outside.specs.MemorySource.{read_amount, after_read};
@@ -52,7 +52,9 @@ impl MemSource {
 impl Source for MemSource {
     ghost left = { λ s. Some s.left };
 
-    ghost faults = { λ s. s.counts.faults };
+    ghost faults = { λ s. s.counts.faults.count };
+
+    ghost has_failed = { λ s. s.counts.faults.has_failed };
 
     /// Gives as many bytes as the piece, the buffer and what is left allow.
     fn read(&mut self, into: &mut [u8]) -> Result<usize, Failed>
@@ -61,7 +63,8 @@ impl Source for MemSource {
         ensures rest { KeepsRest result into.old into.new }
         ensures bytes { ReadConsumes (Some self.old.left) (Some self.new.left) result into.old into.new }
         ensures end { EndsAtZero (Some self.old.left) result into.old }
-        ensures cause { HasCause self.old.counts.faults self.new.counts.faults result }
+        ensures cause { HasCause self.old.counts.faults.count self.new.counts.faults.count result }
+        ensures last { self.new.counts.faults.has_failed ≡ is_err result }
 
         // What this one does besides.
         ensures fails { IsErr result ↔ NextFails self.old.counts }

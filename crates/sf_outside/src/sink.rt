@@ -1,5 +1,5 @@
 //! Where bytes go.
-ghost use Rattle.std.specs.Prelude.{ℕ, List, Option};
+ghost use Rattle.std.specs.Prelude.{◌≡◌, ℕ, Bool, List, Option, is_err};
 ghost use Rattle.sf_outside.specs.Causes.{HasCause};
 ghost use Rattle.sf_outside.specs.Sink.{TakesSome, TakesFirst};
 
@@ -13,8 +13,11 @@ pub trait Sink {
     /// All the bytes that were taken, or `None` where the sink doesn't tell.
     ghost taken: { Self → Option (List ℕ) };
 
-    /// The count of faults. It rises with each call that fails, and with no other, and stays at 2^64 - 1.
+    /// The count of faults. Each call that fails raises it by one, and no other does. It stays at 2^64 - 1.
     ghost faults: { Self → ℕ };
+
+    /// Whether the last call failed.
+    ghost has_failed: { Self → Bool };
 
     /// Takes the first bytes of the piece, and answers how many: at least 1 where there is one.
     ///
@@ -22,5 +25,6 @@ pub trait Sink {
     fn write(&mut self, piece: &[u8]) -> Result<usize, Failed>
         ensures bound { TakesSome result piece.now }
         ensures bytes { TakesFirst (taken self.old) (taken self.new) result piece.now }
-        ensures cause { HasCause (faults self.old) (faults self.new) result };
+        ensures cause { HasCause (faults self.old) (faults self.new) result }
+        ensures last { has_failed self.new ≡ is_err result };
 }

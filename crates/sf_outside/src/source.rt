@@ -1,5 +1,5 @@
 //! Where bytes come from.
-ghost use Rattle.std.specs.Prelude.{ℕ, List, Option};
+ghost use Rattle.std.specs.Prelude.{◌≡◌, ℕ, Bool, List, Option, is_err};
 ghost use Rattle.sf_outside.specs.Causes.{HasCause};
 ghost use Rattle.sf_outside.specs.Source.{ReadsAtMost, KeepsRest, ReadConsumes, EndsAtZero};
 
@@ -12,8 +12,11 @@ pub trait Source {
     /// The bytes that are left, or `None` where the source doesn't tell.
     ghost left: { Self → Option (List ℕ) };
 
-    /// The count of faults. It rises with each call that fails, and with no other, and stays at 2^64 - 1.
+    /// The count of faults. Each call that fails raises it by one, and no other does. It stays at 2^64 - 1.
     ghost faults: { Self → ℕ };
+
+    /// Whether the last call failed.
+    ghost has_failed: { Self → Bool };
 
     /// Puts the first bytes that are left at the front of the buffer, and answers how many.
     ///
@@ -25,5 +28,6 @@ pub trait Source {
         ensures rest { KeepsRest result into.old into.new }
         ensures bytes { ReadConsumes (left self.old) (left self.new) result into.old into.new }
         ensures end { EndsAtZero (left self.old) result into.old }
-        ensures cause { HasCause (faults self.old) (faults self.new) result };
+        ensures cause { HasCause (faults self.old) (faults self.new) result }
+        ensures last { has_failed self.new ≡ is_err result };
 }

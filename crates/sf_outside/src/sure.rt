@@ -1,5 +1,5 @@
 //! A source and a sink in memory that never fail.
-ghost use Rattle.std.specs.Prelude.{◌≡◌, ◌++◌, take, drop, min, length, Some, Ok, IfOk};
+ghost use Rattle.std.specs.Prelude.{◌≡◌, ◌++◌, take, drop, min, length, Some, Ok, IfOk, is_err, false};
 ghost use Rattle.sf_outside.specs.Causes.{HasCause};
 ghost use Rattle.sf_outside.specs.Kept.{nothing_kept, kept_with, told_bytes};
 ghost use Rattle.sf_outside.specs.Sink.{TakesSome, TakesFirst};
@@ -44,6 +44,8 @@ impl Source for SureSource {
 
     ghost faults = { λ _. 0 };
 
+    ghost has_failed = { λ _. false };
+
     /// Gives as many bytes as the buffer and what is left allow.
     fn read(&mut self, into: &mut [u8]) -> Result<usize, Failed>
         // What any source keeps.
@@ -52,6 +54,7 @@ impl Source for SureSource {
         ensures bytes { ReadConsumes (Some self.old) (Some self.new) result into.old into.new }
         ensures end { EndsAtZero (Some self.old) result into.old }
         ensures cause { HasCause 0 0 result }
+        ensures last { false ≡ is_err result }
 
         // What this one does besides.
         ensures amount { result ≡ Ok (min (length into.old) (length self.old)) }
@@ -103,12 +106,15 @@ impl Sink for SureSink {
 
     ghost faults = { λ _. 0 };
 
+    ghost has_failed = { λ _. false };
+
     /// Takes the whole piece.
     fn write(&mut self, piece: &[u8]) -> Result<usize, Failed>
         // What any sink keeps.
         ensures bound { TakesSome result piece.now }
         ensures bytes { TakesFirst (told_bytes self.old) (told_bytes self.new) result piece.now }
         ensures cause { HasCause 0 0 result }
+        ensures last { false ≡ is_err result }
 
         // What this one does besides.
         ensures amount { result ≡ Ok (length piece.now) }

@@ -1,5 +1,5 @@
 //! Each source and sink, called from outside through its trait.
-use crate::{Failed, MemSink, MemSource, Sink, Source, StdSink, StdSource, SureSink, SureSource};
+use crate::{Failed, MemSink, MemSource, Sink, Source, StdStream, SureSink, SureSource};
 use std::io;
 use std::io::{ErrorKind, Read, Write};
 use std::process::Abort;
@@ -103,23 +103,23 @@ impl Read for FailsOnce<'_> {
 
 #[test]
 fn a_standard_source_counts_faults_and_goes_on(rt: HostRuntime) {
-    let mut source = StdSource::new(b"abcdef".as_slice());
+    let mut source = StdStream::new(b"abcdef".as_slice());
     expect_read(&rt, &mut source, (Ok(4), *b"abcd"));
     expect_read(&rt, &mut source, (Ok(2), *b"ef.."));
     expect_read(&rt, &mut source, (Ok(0), *b"...."));
-    assert_eq!(rt; source.faults(), 0);
+    assert_eq!(rt; source.fault_count(), 0);
 
     let reader = FailsOnce {
         bytes: b"abc".as_slice(),
         calls: 0,
     };
-    let mut source = StdSource::new(reader);
+    let mut source = StdStream::new(reader);
     expect_read(&rt, &mut source, (Ok(2), *b"ab.."));
-    assert_eq!(rt; source.faults(), 0);
+    assert_eq!(rt; source.fault_count(), 0);
     expect_read(&rt, &mut source, (Err(Failed), *b"...."));
-    assert_eq!(rt; source.faults(), 1);
+    assert_eq!(rt; source.fault_count(), 1);
     expect_read(&rt, &mut source, (Ok(1), *b"c..."));
-    assert_eq!(rt; source.faults(), 1);
+    assert_eq!(rt; source.fault_count(), 1);
 }
 
 // Takes nothing, and answers so.
@@ -139,16 +139,16 @@ impl Write for TakesNothing {
 #[test]
 fn a_standard_sink_counts_a_write_of_nothing(rt: HostRuntime) {
     let mut out = Vec::new(rt.alloc());
-    let mut sink = StdSink::new(&mut out);
+    let mut sink = StdStream::new(&mut out);
     expect_write(&rt, &mut sink, b"abc", Ok(3));
     expect_write(&rt, &mut sink, b"", Ok(0));
     expect_write(&rt, &mut sink, b"de", Ok(2));
-    assert_eq!(rt; sink.faults(), 0);
+    assert_eq!(rt; sink.fault_count(), 0);
     assert_eq!(rt; out.as_slice(), b"abcde".as_slice());
 
-    let mut sink = StdSink::new(TakesNothing);
+    let mut sink = StdStream::new(TakesNothing);
     expect_write(&rt, &mut sink, b"", Ok(0));
-    assert_eq!(rt; sink.faults(), 0);
+    assert_eq!(rt; sink.fault_count(), 0);
     expect_write(&rt, &mut sink, b"abc", Err(Failed));
-    assert_eq!(rt; sink.faults(), 1);
+    assert_eq!(rt; sink.fault_count(), 1);
 }

@@ -1,5 +1,5 @@
 //! The texts of replies. The texts are this project's own.
-ghost use Rattle.std.specs.Prelude.{◌≡◌, ◌++◌, OnOk, IfOk};
+ghost use Rattle.std.specs.Prelude.{◌≡◌, ◌++◌, OnOk, OnErr, IfOk};
 ghost use Rattle.std.specs.Fmt.{decimal};
 ghost use Rattle.hex.specs.Hex.{encode_lower};
 ghost use Rattle.sf_types.specs.Orders.Texts.{fault_words, fault_text, bytes_text, equal_text, text_of_reply};
@@ -13,18 +13,20 @@ use std::alloc::Global;
 /// The most bytes of a reply that are printed whole.
 const PRINTED_BYTES: usize = 128;
 
-/// Appends a number in decimal digits.
+/// Appends a number in decimal digits. For want of memory the text is as before.
 pub fn push_decimal(text: &mut Vec<u8>, number: u64) -> Mem<()>
-    ensures { OnOk result (text.new.items ≡ text.old.items ++ decimal number) }
+    ensures ok { OnOk result (text.new.items ≡ text.old.items ++ decimal number) }
+    ensures err { OnErr result (text.new.items ≡ text.old.items) }
 {
     let digits = number.to_string(*text.allocator())?;
     text.extend_from_slice(digits.as_bytes())?;
     Ok(())
 }
 
-/// Appends bytes as lower-case hex digits.
+/// Appends bytes as lower-case hex digits. For want of memory the text is as before.
 pub fn push_hex(text: &mut Vec<u8>, bytes: &[u8]) -> Mem<()>
-    ensures { OnOk result (text.new.items ≡ text.old.items ++ encode_lower bytes.now) }
+    ensures ok { OnOk result (text.new.items ≡ text.old.items ++ encode_lower bytes.now) }
+    ensures err { OnErr result (text.new.items ≡ text.old.items) }
 {
     let digits = hex::encode(*text.allocator(), bytes)?;
     text.extend_from_slice(digits.as_bytes())?;
@@ -95,8 +97,8 @@ fn push_fault(text: &mut Vec<u8>, fault: &Fault) -> Mem<()>
     Ok(())
 }
 
-/// Appends the text of a reply, without a line feed.
-pub fn push_reply(text: &mut Vec<u8>, reply: &Reply) -> Mem<()>
+// Appends the text of a reply. For want of memory a front of it may stand behind the text.
+fn push_parts(text: &mut Vec<u8>, reply: &Reply) -> Mem<()>
     ensures { OnOk result (text.new.items ≡ text.old.items ++ text_of_reply reply.now) }
 {
     match reply {
@@ -122,6 +124,16 @@ pub fn reply_text(alloc: Global, reply: &Reply) -> Mem<Blob>
     ensures { IfOk result (λ text. text ≡ text_of_reply reply.now) }
 {
     let mut text = Vec::new(alloc);
-    push_reply(&mut text, reply)?;
+    push_parts(&mut text, reply)?;
     Blob::from_vec(text)
+}
+
+/// Appends the text of a reply, without a line feed. For want of memory the text is as before.
+pub fn push_reply(text: &mut Vec<u8>, reply: &Reply) -> Mem<()>
+    ensures ok { OnOk result (text.new.items ≡ text.old.items ++ text_of_reply reply.now) }
+    ensures err { OnErr result (text.new.items ≡ text.old.items) }
+{
+    let own = reply_text(*text.allocator(), reply)?;
+    text.extend_from_slice(own.as_bytes())?;
+    Ok(())
 }

@@ -1,0 +1,5 @@
+pub mod AnswerLemmas
+pub mod LiveLemmas
+pub mod PlayLemmas
+pub mod ReadLemmas
+pub mod WriteLemmas

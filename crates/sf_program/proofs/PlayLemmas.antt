@@ -1,0 +1,79 @@
+-- The play of session 1's calls, one after the other.
+use Rattle.std.proofs.Common.{◌≡◌, ℕ, zero, suc, ◌+◌, ◌<◌, Bool, true, false, ◌&&◌, List, [], ◌∷◌, ◌++◌, map, length, get_or, drop, replicate, refl, sym, ap, ◌∙◌, append_assoc, arith}
+use Rattle.std.specs.List.{list_all}
+use Rattle.std.proofs.lemmas.List.{drop_more}
+use Rattle.sf_types.proofs.BoolLemmas.{both_first, both_second}
+use Rattle.sf_types.specs.declared.call.Call.{Call}
+use Rattle.sf_types.specs.declared.call.Call.TheVariants.{End}
+use Rattle.sf_types.specs.declared.call.Call.TheVariants as call
+use Rattle.sf_types.specs.declared.history.Kind.TheVariants as kind
+use Rattle.sf_types.specs.declared.history.Token.{Token}
+use Rattle.sf_types.specs.declared.reply.Reply.{Reply}
+use Rattle.sf_types.specs.Table.Parts.{Table}
+use Rattle.sf_types.specs.Orders.Histories.{table_after, replies_from, replies_to}
+use Rattle.sf_script.specs.Provisional.Calls.{can_stand}
+use Rattle.sf_model.specs.Provisional.{has_step}
+use Rattle.sf_program.specs.Plays.{entry_of, done_by}
+
+-- The replies to some calls and the End, and the table after them.
+abbrev pub replies_due : Table → List Call → List Reply
+replies_due t calls = replies_to 1 (replies_from t (map entry_of (calls ++ End ∷ [])))
+
+abbrev pub table_due : Table → List Call → Table
+table_due t calls = table_after t (map entry_of (calls ++ End ∷ []))
+
+-- each call of a script may stand in it
+pub stands_among : (calls : List Call) (i : ℕ) (x : Call) → list_all can_stand calls ≡ true → i < length calls → x ≡ get_or calls i x → can_stand x ≡ true
+stands_among [] i x all lt is = absurd (omega arith)
+stands_among (c ∷ cs) zero x all lt is = ap can_stand is ∙ both_first (can_stand c) (list_all can_stand cs) all
+stands_among (c ∷ cs) (suc i) x all lt is = stands_among cs i x (both_second (can_stand c) (list_all can_stand cs) all) (omega arith) is
+
+-- the calls from one place on
+pub next_call : (calls : List Call) (i : ℕ) (x : Call) → i < length calls → x ≡ get_or calls i x → drop i calls ≡ x ∷ drop (i + 1) calls
+next_call calls i x lt is = drop_more calls i x lt ∙ ap (λ (y : Call). y ∷ drop (i + 1) calls) (sym is)
+
+pub replies_more : (t u : Table) (x : Call) (calls rest : List Call) (out more total : List Reply) → calls ≡ x ∷ rest → u ≡ (done_by t x).0 → more ≡ out ++ (done_by t x).1 ∷ [] → out ++ replies_due t calls ≡ total → more ++ replies_due u rest ≡ total
+replies_more t u x calls rest out more total calls-is u-is more-is so_far =
+    rw (more-is, u-is)
+    (append_assoc out ((done_by t x).1 ∷ []) (replies_due (done_by t x).0 rest) ∙ ap (λ (cs : List Call). out ++ replies_due t cs) (sym calls-is) ∙ so_far)
+
+pub table_more : (t u : Table) (x : Call) (calls rest : List Call) (end : Table) → calls ≡ x ∷ rest → u ≡ (done_by t x).0 → table_due t calls ≡ end → table_due u rest ≡ end
+table_more t u x calls rest end calls-is u-is so_far = rw u-is (ap (table_due t) (sym calls-is) ∙ so_far)
+
+-- session 1 once for each call and once for its End
+pub order-is : (calls : List Call) → replicate (length calls + 1) (record { session = 1; kind = kind.Call }) ≡ map (λ entry. entry.token) (map entry_of (calls ++ End ∷ []))
+order-is [] = refl
+order-is (c ∷ cs) =
+    let token : Token = record { session = 1; kind = kind.Call } in
+    let count : suc (length cs) + 1 ≡ suc (length cs + 1) = omega arith in
+    ap (λ n. replicate n token) count ∙ ap (λ (ts : List Token). token ∷ ts) (order-is cs)
+
+-- a call that may stand in a script has a step
+pub has_step_of : (c : Call) → can_stand c ≡ true → has_step c ≡ true
+has_step_of (call.Insert row) stands = refl
+has_step_of (call.Lock to row) stands = refl
+has_step_of (call.WriteAppend at bytes) stands = refl
+has_step_of (call.Length at) stands = refl
+has_step_of (call.Read at amount offset) stands = refl
+has_step_of call.Commit stands = refl
+has_step_of (call.Delete row) stands = absurd cc
+has_step_of (call.Select to row) stands = absurd cc
+has_step_of (call.SelectAsOf to row n) stands = absurd cc
+has_step_of (call.Assign to from) stands = absurd cc
+has_step_of (call.Free at) stands = absurd cc
+has_step_of (call.Instr at pattern offset) stands = absurd cc
+has_step_of (call.Compare left right amount left_offset right_offset) stands = absurd cc
+has_step_of (call.Write at offset bytes) stands = absurd cc
+has_step_of (call.Append at from) stands = absurd cc
+has_step_of (call.Copy at from amount to_offset from_offset) stands = absurd cc
+has_step_of (call.Erase at amount offset) stands = absurd cc
+has_step_of (call.Trim at new_size) stands = absurd cc
+has_step_of (call.FragInsert at offset bytes) stands = absurd cc
+has_step_of (call.FragDelete at amount offset) stands = absurd cc
+has_step_of (call.FragMove at amount from_offset to_offset) stands = absurd cc
+has_step_of (call.FragReplace at old_amount offset bytes) stands = absurd cc
+has_step_of (call.SetOptions at share) stands = absurd cc
+has_step_of (call.Savepoint name) stands = absurd cc
+has_step_of (call.RollbackTo name) stands = absurd cc
+has_step_of call.Rollback stands = absurd cc
+has_step_of call.End stands = absurd cc
