@@ -74,7 +74,7 @@ impl FreeRuns {
         ensures spare { self.new.spare ≡ self.old.spare + (length self.old.held.runs - length self.new.held.runs) }
         ensures err { OnErr result (self.new.held ≡ self.old.held) }
     {
-        let mut granted = Runs::new(self.runs.allocator());
+        let mut granted = self.runs.no_runs();
         granted.make_room(self.runs.room_for(n))?;
         let mut rest = n;
         while rest > 0 {

@@ -7,7 +7,7 @@ ghost use Rattle.sf_types.specs.Rooms.{MakesRoom};
 ghost use Rattle.sf_block_space.specs.Free.{AreFreeRuns, AreOut};
 ghost use Rattle.sf_block_space.specs.Inside.{BeginsFrom, HandsOut, IsNext, IsOffsetOf, IsRoomFor, IsTaken, TakesBack};
 
-use sf_types::{Mem, Run};
+use sf_types::{Mem, Run, Runs};
 use std::alloc::Global;
 use std::marker::Model;
 
@@ -51,9 +51,12 @@ impl MaximalRuns {
         Ok(MaximalRuns { runs, capacity })
     }
 
-    // The allocator of the list.
-    pub fn allocator(&self) -> Global {
-        *self.runs.allocator()
+    // An empty list of runs, without room.
+    pub fn no_runs(&self) -> Runs
+        ensures runs { result.held ≡ [] }
+        ensures spare { result.spare ≡ 0 }
+    {
+        Runs::new(*self.runs.allocator())
     }
 
     // Makes room for so many runs more.

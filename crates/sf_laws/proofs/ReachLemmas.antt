@@ -4,11 +4,12 @@ use Rattle.std.specs.Prelude.{flat_map, is_none, nat_lt, slice_index_or, ◌==�
 use Rattle.std.specs.List.{AllByRecursion as Each, filter_map, range_with_len}
 use Rattle.std.specs.Option.{option_map_or, IfSome}
 use Rattle.std.proofs.lemmas.Bool.Decides.{nat_tests, Decides-eqb}
+use Rattle.sf_types.specs.declared.holder.Holder.TheVariants as holder
 use Rattle.sf_types.specs.Inside.Births.{with_birth, rising_births}
 use Rattle.sf_types.specs.Values.Marks.{Marked, Value, birth_of_mark, births_in}
 use Rattle.sf_types.specs.Table.Parts.{Promise, Rows, Session, Table}
 use Rattle.sf_types.specs.Table.Versions.{last_change}
-use Rattle.sf_types.specs.Space.Reach.{Holding, OfVersion, is_kept, version_holding, version_holdings, values_in, session_values, session_births, promise_holding, session_holdings, holdings, reach}
+use Rattle.sf_types.specs.Space.Reach.{Holding, is_kept, version_holding, version_holdings, values_in, session_values, session_births, promise_holding, session_holdings, holdings, reach}
 use Rattle.sf_laws.specs.TrueMarks.{found_by}
 use Rattle.sf_laws.proofs.EachLemmas.{each_weaker, each-append, each_left, each_right, each-map, each_from_map, each-flat_map, each_from_flat_map, each-filter_map, each_from_filter_map}
 use Rattle.sf_laws.proofs.HeldLemmas.{OfRows, OfKept, OfVersions, OfSession, Held}
@@ -104,11 +105,11 @@ each_from_session_births P p all =
 abbrev OfHolding : (ℕ → Type 0) → Holding → Type 0
 OfHolding P h = Each P h.births
 
-of_promise : (P : ℕ → Type 0) (s : ℕ) (o : Option Promise) → Each P (option_map_or (λ q. q.births) o []) → Each (OfHolding P) (option_map_or (λ q. record { holder = Rattle.sf_types.specs.Space.Reach.OfPromise s; births = q.births } ∷ []) o [])
+of_promise : (P : ℕ → Type 0) (s : ℕ) (o : Option Promise) → Each P (option_map_or (λ q. q.births) o []) → Each (OfHolding P) (option_map_or (λ q. record { holder = holder.Promise s; births = q.births } ∷ []) o [])
 of_promise P s None all = tt
 of_promise P s (Some q) all = (all, tt)
 
-from_promise : (P : ℕ → Type 0) (s : ℕ) (o : Option Promise) → Each (OfHolding P) (option_map_or (λ q. record { holder = Rattle.sf_types.specs.Space.Reach.OfPromise s; births = q.births } ∷ []) o []) → Each P (option_map_or (λ q. q.births) o [])
+from_promise : (P : ℕ → Type 0) (s : ℕ) (o : Option Promise) → Each (OfHolding P) (option_map_or (λ q. record { holder = holder.Promise s; births = q.births } ∷ []) o []) → Each P (option_map_or (λ q. q.births) o [])
 from_promise P s None all = tt
 from_promise P s (Some q) all = all.0
 
@@ -136,7 +137,7 @@ kept_is t n cs row at =
 of_version : (P : ℕ → Type 0) (t : Table) (n : ℕ) (upto : List Rows) (e : List ℕ × Option Value) → ((row : List ℕ) → is_kept t row n ≡ is_none (last_change upto row)) → OfKept (OfBirth P) upto e → IfSome (version_holding t n e) (OfHolding P)
 of_version P t n upto (row, None) kept is = tt
 of_version P t n upto (row, Some v) kept is =
-    elim (is_kept t row n) as (λ b. is_kept t row n ≡ b → IfSome (cond b (Some (record { holder = OfVersion row n; births = births_in v })) None) (OfHolding P)) [
+    elim (is_kept t row n) as (λ b. is_kept t row n ≡ b → IfSome (cond b (Some (record { holder = holder.Version row n; births = births_in v })) None) (OfHolding P)) [
       | true ↦ λ b. each-births_in P v (is (none_from (last_change upto row) (sym (kept row) ∙ b)))
       | false ↦ λ b. tt
     ] refl
@@ -145,7 +146,7 @@ from_version : (P : ℕ → Type 0) (t : Table) (n : ℕ) (upto : List Rows) (e 
 from_version P t n upto (row, None) kept is none = tt
 from_version P t n upto (row, Some v) kept is none =
     let b : is_kept t row n ≡ true = kept row ∙ ap is_none none in
-    each_from_births_in P v (subst (λ x. IfSome (cond x (Some (record { holder = OfVersion row n; births = births_in v })) None) (OfHolding P)) b is)
+    each_from_births_in P v (subst (λ x. IfSome (cond x (Some (record { holder = holder.Version row n; births = births_in v })) None) (OfHolding P)) b is)
 
 abbrev versions_from : Table → ℕ → ℕ → List Holding
 versions_from t k count = flat_map (λ n. filter_map (version_holding t n) (slice_index_or t.commits (n - 1) [])) (range_with_len k count)

@@ -1,10 +1,12 @@
-mod HashMaps
-mod Sums
-mod ByBirth
-mod ByHolder
-mod CountLaws
-mod ExchangeLaws
-mod LedgerLaws
-mod TallyLaws
-mod ShiftLaws
-mod ExampleLaws
+mod MapSumLemmas
+mod HashMapLemmas
+mod BirthMapLemmas
+mod HolderMapLemmas
+mod CountLemmas
+mod ExchangeLemmas
+mod LedgerLemmas
+mod ListingLemmas
+mod ShiftLemmas
+pub mod PlannedShiftLemmas
+mod TallyLemmas
+mod ExampleLemmas

@@ -1,9 +1,3 @@
-pub mod Bounds
-pub mod Codes
-pub mod Counted
-pub mod Counts
-pub mod Examples
-pub mod Holders
 pub mod Ledgers
 pub mod Shifts
-pub mod Tallies
+pub mod Inside

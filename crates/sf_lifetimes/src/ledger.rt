@@ -1,51 +1,40 @@
 //! The ledger of contents by counts.
-ghost use Rattle.std.specs.Prelude.{◌≡◌, ◌≢◌, ◌+◌, ◌≤◌, ◌^◌, ◌++◌, [], ◌==◌, cond, length, map, All, AllPairs, None, Some, IsSome, is_some, not, IfOk, OnOk};
+ghost use Rattle.std.specs.Prelude.{◌≡◌, ◌≢◌, ◌-◌, ◌≤◌, ◌^◌, ◌++◌, [], length, map, All, AllPairs, None, IsSome, is_some, IfOk, OnOk};
 ghost use Rattle.std.specs.Option.{option_copied};
 ghost use Rattle.std.specs.FinMap as fin;
-ghost use Rattle.sf_types.specs.Rooms.{MakesRoom, GrowsWithin};
+ghost use Rattle.sf_types.specs.Rooms.{MakesRoom, GrowsWithin, MovesWithin};
+ghost use Rattle.sf_shrink.specs.Plans.{ArePlaced};
+ghost use Rattle.sf_lifetimes.specs.Ledgers.{number_of_holders, is_live, live_places, waiting_places, place_of, listed_places, live_blocks, IsNewPlace, held_by, unheld_births, with_holding, unheld_places, freed_by};
 ghost use Rattle.sf_lifetimes.specs.Shifts.{AreSafeShifts};
-ghost use Rattle.sf_lifetimes.specs.Ledgers.{IsNewPlace, MovesWithin, number_of_holders, place_of, live_blocks, unheld, with_held, handed_out, freed_by};
 
-use crate::exchange::count_again;
-use crate::holder::{Holder, HolderList};
-use crate::holder_map::HolderMap;
-use crate::place_map::{Counted, PlaceMap};
+use crate::holding_map::HoldingMap;
+use crate::place_map::PlaceMap;
+pub use crate::place_map::UnheldPlaces;
 use crate::tally::freed_blocks;
 use sf_shrink::ShiftList;
-use sf_types::{Births, ContentRuns, Mem, RunsList};
+use sf_types::{BirthRunsList, Births, ContentRuns, Holder, HolderList, Mem};
 use std::alloc::Global;
 use std::marker::Model;
 
-// The runs of a place that some holder holds.
-fn runs_if_held(counted: &Counted) -> Option<&ContentRuns>
-    ensures runs { option_copied result ≡ cond (counted.now.holders == 0) None (Some counted.now.runs) }
-    ensures held { is_some result ≡ not (counted.now.holders == 0) }
-{
-    if counted.holders == 0 {
-        None
-    } else {
-        Some(&counted.runs)
-    }
-}
-
 /// The places of births and the births of holders, seen as two finite maps, with room for more births. A birth is live
-/// exactly where some holder holds it; how many do is counted with its place (our own).
+/// exactly where some holder holds it; how many do is counted with its place. The room falls by what a call adds.
 #[derive(Drop)]
 pub struct Ledger {
     places: PlaceMap,
-    holdings: HolderMap,
+    holdings: HoldingMap,
+    room: u64,
+    alloc: Global,
 }
 
 impl Model for Ledger {
-    ghost use Rattle.std.specs.Prelude.{min, ℕ};
     ghost use Rattle.std.specs.Coded.{coded_ℕ, coded_list};
     ghost use Rattle.std.specs.FinMap as fin;
     ghost use Rattle.sf_types.specs.Rooms.{Roomy};
     ghost use Rattle.sf_types.specs.contracts.run.Run as run;
-    ghost use Rattle.sf_lifetimes.specs.contracts.holder.Holder as holder;
-    ghost use Rattle.sf_lifetimes.specs.Codes.{roomy_code, ledger_code};
+    ghost use Rattle.sf_types.specs.contracts.holder.Holder as holder;
     ghost use Rattle.sf_lifetimes.specs.Ledgers.{LedgerView};
-    ghost use Rattle.sf_lifetimes.specs.Counted.{places_in, IsCountedBy};
+    ghost use Rattle.sf_lifetimes.specs.Inside.Codes.{roomy_code, ledger_code};
+    ghost use Rattle.sf_lifetimes.specs.Inside.Counted.{places_in, IsLedger};
 
     ghost Value = { Roomy LedgerView };
 
@@ -53,21 +42,24 @@ impl Model for Ledger {
 
     ghost view = { λ l. record {
       held = record { places = places_in l.places.held; holdings = l.holdings.held };
-      spare = min l.places.spare l.holdings.spare;
+      spare = l.room;
     } };
 
-    ghost invariant = { λ l. IsCountedBy l.places.held l.holdings.held };
+    ghost invariant = { λ l. IsLedger l.places l.holdings l.room };
 }
 
 impl Ledger {
-    /// No places and no holders.
+    /// No places, no holders and no room.
     pub fn new(alloc: Global) -> Mem<Ledger>
         ensures places { IfOk result (λ ledger. ledger.held.places ≡ fin.empty) }
         ensures holdings { IfOk result (λ ledger. ledger.held.holdings ≡ fin.empty) }
+        ensures spare { IfOk result (λ ledger. ledger.spare ≡ 0) }
     {
         Ok(Ledger {
             places: PlaceMap::new(alloc),
-            holdings: HolderMap::new(alloc),
+            holdings: HoldingMap::new(alloc),
+            room: 0,
+            alloc,
         })
     }
 
@@ -77,6 +69,7 @@ impl Ledger {
     {
         self.places.make_room(births)?;
         self.holdings.make_room(births)?;
+        self.room = self.room.max(births);
         Ok(())
     }
 
@@ -90,12 +83,17 @@ impl Ledger {
     /// The place of a live birth. None exactly where the birth isn't live.
     pub fn place_of(&self, birth: u128) -> Option<&ContentRuns>
         ensures place { option_copied result ≡ place_of self.now.held birth }
-        ensures live { is_some result ≡ not (number_of_holders birth self.now.held.holdings == 0) }
+        ensures live { is_some result ≡ is_live self.now.held.holdings birth }
     {
-        match self.places.get(birth) {
-            Some(counted) => runs_if_held(counted),
-            None => None,
-        }
+        self.places.runs_of(birth)
+    }
+
+    /// The live births with copies of their places, in rising order.
+    pub fn places(&self) -> Mem<BirthRunsList>
+        ensures places { IfOk result (λ places. places ≡ listed_places self.now.held) }
+        ensures placed { IfOk result (λ places. ArePlaced places (2 ^ 32)) }
+    {
+        self.places.places(self.alloc)
     }
 
     /// The number of blocks of all live births, 2^32 at most.
@@ -107,48 +105,50 @@ impl Ledger {
     }
 
     /// Puts the place of a new birth, which has no holder yet. Each block is below 2^32, stands in no place, and is named
-    /// once. After want of memory nothing has changed.
+    /// once.
     pub fn place(&mut self, birth: u128, runs: ContentRuns) -> Mem<()>
         requires birth { fin.get self.old.held.places birth ≡ None }
         requires runs { IsNewPlace self.old.held.places runs }
         ensures places { OnOk result (self.new.held.places ≡ fin.insert self.old.held.places birth runs) }
         ensures holdings { self.new.held.holdings ≡ self.old.held.holdings }
-        ensures room { GrowsWithin self.old self.new 1 result }
+        ensures room { GrowsWithin self.old self.new 1 1 result }
     {
         self.places.insert(birth, runs)?;
+        self.room = self.room.saturating_sub(1);
         Ok(())
     }
 
-    /// What a holder holds from now on, in place of what it held. Each birth has a place. The places of the births that
-    /// nobody holds any more leave the ledger and go to the end of `into`, in rising order of births. After want of memory
-    /// the ledger and `into` hold what they held.
-    pub fn hold(&mut self, holder: Holder, births: Births, into: &mut RunsList) -> Mem<()>
+    /// What a holder holds from now on, in place of what it held. Each birth has a place. The births that nobody holds any
+    /// more leave the ledger and go to the end of `into` with their places, in rising order.
+    pub fn hold(&mut self, holder: Holder, births: Births, into: &mut UnheldPlaces) -> Mem<()>
         requires { All (λ birth. IsSome (fin.get self.old.held.places birth)) births }
-        ensures held { OnOk result (self.new.held ≡ with_held self.old.held holder births) }
-        ensures into { OnOk result (into.new.held ≡ into.old.held ++ handed_out self.old.held holder births) }
-        ensures room { MovesWithin self.old self.new (length births) into.old into.new (length (unheld self.old.held.holdings holder births)) result }
+        ensures held { OnOk result (self.new.held ≡ with_holding self.old.held holder births) }
+        ensures into { OnOk result (into.new.held ≡ into.old.held ++ unheld_places self.old.held holder births) }
+
+        // A holder that is there is written in place.
+        ensures room { MovesWithin self.old self.new
+            (length births - length (held_by self.old.held.holdings holder)) (length births - length (held_by self.old.held.holdings holder))
+            into.old into.new (length (unheld_births self.old.held.holdings holder births)) result }
     {
-        let count = births.as_slice().len().min(1);
-        self.holdings.make_room(count as u64)?;
-        count_again(
-            &mut self.places,
-            &self.holdings,
-            &holder,
-            births.as_slice(),
-            into,
-        )?;
+        let old = self.holdings.births_of(&holder).len();
+        let new = births.as_slice().len();
+        self.holdings.bound();
+        self.holdings.make_room_for(&holder, new)?;
+        self.places
+            .exchange(self.holdings.births_of(&holder), births.as_slice(), into)?;
         self.holdings.replace(holder, births);
+        self.room = self.room.saturating_sub(new.saturating_sub(old) as u64);
         Ok(())
     }
 
-    /// From now on a holder holds nothing. The places go as in `hold`. After want of memory the ledger and `into` hold what
-    /// they held.
-    pub fn drop_holder(&mut self, holder: &Holder, into: &mut RunsList) -> Mem<()>
-        ensures held { OnOk result (self.new.held ≡ with_held self.old.held holder.now []) }
-        ensures into { OnOk result (into.new.held ≡ into.old.held ++ handed_out self.old.held holder.now []) }
-        ensures room { MovesWithin self.old self.new 0 into.old into.new (length (unheld self.old.held.holdings holder.now [])) result }
+    /// From now on a holder holds nothing. The births that nobody holds any more go as in `hold`.
+    pub fn drop_holder(&mut self, holder: &Holder, into: &mut UnheldPlaces) -> Mem<()>
+        ensures held { OnOk result (self.new.held ≡ with_holding self.old.held holder.now []) }
+        ensures into { OnOk result (into.new.held ≡ into.old.held ++ unheld_places self.old.held holder.now []) }
+        ensures room { MovesWithin self.old self.new 0 0 into.old into.new (length (unheld_births self.old.held.holdings holder.now [])) result }
     {
-        count_again(&mut self.places, &self.holdings, holder, &[], into)?;
+        self.places
+            .exchange(self.holdings.births_of(holder), &[], into)?;
         self.holdings.remove(holder);
         Ok(())
     }
@@ -166,14 +166,15 @@ impl Ledger {
         )
     }
 
-    /// Gives each birth its new place. The shifts name the births that have a place, in their order, each with as many
-    /// blocks as before; each block is below 2^32, and none stands twice. A birth that has a place and waits for its first
-    /// holder is named too. It takes no memory.
+    /// Gives each live birth its new place. The shifts name the live births, each once and rising, each with as many blocks
+    /// as before; each block is below 2^32, none stands twice, and none in the place of a birth that waits for its first
+    /// holder, which stays where it is. It takes no memory.
     pub fn shift(&mut self, shifts: ShiftList)
-        requires { AreSafeShifts self.old.held.places shifts }
-        ensures places { fin.entries self.new.held.places ≡ map (λ shift. (shift.birth, shift.to)) shifts }
+        requires { AreSafeShifts (live_places self.old.held) (waiting_places self.old.held) shifts }
+        ensures live { fin.entries (live_places self.new.held) ≡ map (λ shift. (shift.birth, shift.to)) shifts }
+        ensures waiting { waiting_places self.new.held ≡ waiting_places self.old.held }
         ensures holdings { self.new.held.holdings ≡ self.old.held.holdings }
-        ensures spare { self.old.spare ≤ self.new.spare }
+        ensures spare { self.new.spare ≡ self.old.spare }
     {
         self.places.shift(shifts);
     }

@@ -1,15 +1,13 @@
 //! The contents that holders hold, by counts.
 #![tactic(auto)]
 
-mod exchange;
-mod holder;
-mod holder_map;
+mod holding_map;
 mod ledger;
+mod map_room;
 mod place_map;
 mod tally;
 
-pub use holder::{Holder, HolderList};
-pub use ledger::Ledger;
+pub use ledger::{Ledger, UnheldPlaces};
 
 #[cfg(test)]
 mod tests;

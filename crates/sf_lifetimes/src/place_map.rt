@@ -1,53 +1,71 @@
 //! The places of births with the number of their holders.
-ghost use Rattle.std.specs.Prelude.{◌≡◌, ℕ, ◌+◌, ◌<◌, ◌≤◌, ◌^◌, ◌==◌, ◌++◌, ◌∷◌, [], cond, length, None, OnOk, IsSome};
+ghost use Rattle.std.specs.Prelude.{◌≡◌, ℕ, ◌+◌, ◌<◌, ◌≤◌, ◌^◌, ◌==◌, ◌++◌, ◌∷◌, [], Bool, cond, map, length, None, Some, Option, OnOk, IfOk, IsSome};
 ghost use Rattle.std.specs.Option.{option_copied};
 ghost use Rattle.std.specs.FinMap as fin;
 ghost use Rattle.std.specs.Ordering.{nat_cmp};
+ghost use Rattle.std.specs.BTreeMap as tree;
 ghost use Rattle.std.specs.HashMap.{spare};
 ghost use Rattle.sf_types.specs.Inside.Births.{IsRising};
 ghost use Rattle.sf_types.specs.Space.BlockRuns.{blocks_in};
-ghost use Rattle.sf_types.specs.Rooms.{MakesRoom, GrowsWithin};
-ghost use Rattle.sf_lifetimes.specs.Counted.{places_in};
-ghost use Rattle.sf_lifetimes.specs.Shifts.{AreSafeShifts, moved, shifted};
-ghost use Rattle.sf_lifetimes.specs.Counts.{live_sum, holders_in, runs_in, raised, lowered, released, IsChangedAt, AreChanged, AreFew, AreHeld, IsFree, unheld_place, last_held, runs_of};
+ghost use Rattle.sf_types.specs.Rooms.{MakesRoom, GrowsWithin, MovesWithin};
+ghost use Rattle.sf_shrink.specs.Plans.{ArePlaced};
+ghost use Rattle.sf_lifetimes.specs.Ledgers.{has_birth};
+ghost use Rattle.sf_lifetimes.specs.Shifts.{AreSafeShifts};
+ghost use Rattle.sf_lifetimes.specs.Inside.Counted.{live_places_in, waiting_places_in};
+ghost use Rattle.sf_lifetimes.specs.Inside.Counts.{live_sum, holders_in, runs_in, live_runs, or_else, with_one_more, with_one_fewer, IsChangedAt, AreChanged, AreExchanged, AreFew, AreHeld, IsFree, without_holder, last_births, lone_births, runs_of_births, with_runs, with_shifts};
 
+use crate::map_room::insert_within;
 use sf_shrink::{Shift, ShiftList};
-use sf_types::{ContentRuns, Mem, Run, RunsList};
+use sf_types::{BirthRuns, BirthRunsList, ContentRuns, List, Mem, RoomList, TryCopy};
 use std::alloc::Global;
-use std::collections::HashMap;
+use std::collections::{BTreeMap, HashMap};
 use std::marker::Model;
 
-/// A place, the number of its blocks, and the number of its holders.
+/// Births that nobody holds any more with their places, and room for more.
+pub type UnheldPlaces = RoomList<BirthRuns>;
+
+/// A place and the number of its holders.
 #[derive(Drop)]
 pub struct Counted {
     pub runs: ContentRuns,
-    pub blocks: u64,
     pub holders: u64,
 }
 
-// The number of blocks of some runs.
-fn count_blocks(runs: &[Run]) -> u64
-    requires { length (blocks_in runs.now) ≤ 2 ^ 32 }
-    ensures { result ≡ length (blocks_in runs.now) }
+// The number of blocks of a place that nobody holds, and else 0.
+fn blocks_if_unheld(counted: &Counted) -> u64
+    requires { length (blocks_in counted.now.runs) < 2 ^ 64 }
+    ensures { result ≡ cond (counted.now.holders == 0) (length (blocks_in counted.now.runs)) 0 }
 {
-    let mut count = 0u64;
-    for run in runs {
-        count += u64::from(run.blocks);
+    if counted.holders == 0 {
+        counted.runs.block_count()
+    } else {
+        0
     }
-    count
 }
 
-// The number of blocks, or none where there is no holder.
-fn blocks_if_held(holders: u64, blocks: u64) -> u64
-    ensures { result ≡ cond (holders == 0) 0 blocks }
+// The runs of a place that some holder holds.
+fn runs_if_held(counted: &Counted) -> Option<&ContentRuns>
+    ensures { option_copied result ≡ live_runs (Some counted.now) }
 {
-    if holders == 0 { 0 } else { blocks }
+    if counted.holders == 0 {
+        None
+    } else {
+        Some(&counted.runs)
+    }
+}
+
+// Whether a rising list has a birth.
+fn has(births: &[u128], birth: u128) -> bool
+    requires { IsRising births.now }
+    ensures { result ≡ has_birth births.now birth }
+{
+    births.binary_search(&birth).is_ok()
 }
 
 // Gives a birth other runs, where it has a place. It takes no memory.
 fn shift_one(entries: &mut HashMap<u128, Counted>, birth: u128, to: ContentRuns)
     ensures changed { (q : ℕ) → fin.get (fin.from_entries {R = nat_cmp} entries.new.entries) q
-        ≡ cond (q == birth) (moved to (fin.get (fin.from_entries {R = nat_cmp} entries.old.entries) q)) (fin.get (fin.from_entries {R = nat_cmp} entries.old.entries) q) }
+        ≡ cond (q == birth) (with_runs to (fin.get (fin.from_entries {R = nat_cmp} entries.old.entries) q)) (fin.get (fin.from_entries {R = nat_cmp} entries.old.entries) q) }
     ensures spare { spare entries.new ≡ spare entries.old }
 {
     match entries.get_mut(&birth) {
@@ -59,7 +77,7 @@ fn shift_one(entries: &mut HashMap<u128, Counted>, birth: u128, to: ContentRuns)
 // Gives each birth of a list other runs. It takes no memory.
 fn shift_all(entries: &mut HashMap<u128, Counted>, shifts: Vec<Shift>)
     ensures changed { (q : ℕ) → fin.get (fin.from_entries {R = nat_cmp} entries.new.entries) q
-        ≡ shifted shifts.items q (fin.get (fin.from_entries {R = nat_cmp} entries.old.entries) q) }
+        ≡ with_shifts shifts.items q (fin.get (fin.from_entries {R = nat_cmp} entries.old.entries) q) }
     ensures spare { spare entries.new ≡ spare entries.old }
 {
     let mut rest = shifts;
@@ -81,9 +99,9 @@ impl Model for PlaceMap {
     ghost use Rattle.std.specs.Ordering.{nat_cmp};
     ghost use Rattle.std.specs.HashMap.{spare};
     ghost use Rattle.sf_types.specs.Rooms.{Roomy};
-    ghost use Rattle.sf_lifetimes.specs.Counts.{CountedMap, IsCounted};
+    ghost use Rattle.sf_lifetimes.specs.Inside.Counts.{CountedMap, IsCounted};
     ghost use Rattle.sf_lifetimes.specs.contracts.place_map.Counted as counted;
-    ghost use Rattle.sf_lifetimes.specs.Codes.{roomy_code};
+    ghost use Rattle.sf_lifetimes.specs.Inside.Codes.{roomy_code};
 
     ghost Value = { Roomy CountedMap };
 
@@ -114,103 +132,10 @@ impl PlaceMap {
     }
 
     // The place of a birth.
-    pub fn get(&self, birth: u128) -> Option<&Counted>
+    fn get(&self, birth: u128) -> Option<&Counted>
         ensures { option_copied result ≡ fin.get self.now.held birth }
     {
         self.entries.get(&birth)
-    }
-
-    // The number of blocks of places that some holder holds.
-    pub fn live_blocks(&self) -> u64
-        ensures live { result ≡ live_sum self.now.held }
-        ensures few { result ≤ 2 ^ 32 }
-    {
-        self.live
-    }
-
-    // One holder more at a birth that has a place. It takes no memory.
-    pub fn raise(&mut self, birth: u128)
-        requires placed { IsSome (fin.get self.old.held birth) }
-        requires few { holders_in (fin.get self.old.held birth) < 2 ^ 63 }
-        ensures changed { IsChangedAt raised self.old.held birth self.new.held }
-        ensures spare { self.new.spare ≡ self.old.spare }
-    {
-        let Some(counted) = self.entries.get_mut(&birth) else {
-            unreachable!();
-        };
-        let before = blocks_if_held(counted.holders, counted.blocks);
-        counted.holders += 1;
-        self.live += counted.blocks - before;
-    }
-
-    // One holder fewer at a birth that has one. It takes no memory.
-    pub fn lower(&mut self, birth: u128)
-        requires { 1 ≤ holders_in (fin.get self.old.held birth) }
-        ensures changed { IsChangedAt lowered self.old.held birth self.new.held }
-        ensures spare { self.new.spare ≡ self.old.spare }
-    {
-        let Some(counted) = self.entries.get_mut(&birth) else {
-            unreachable!();
-        };
-        counted.holders -= 1;
-        let after = blocks_if_held(counted.holders, counted.blocks);
-        self.live -= counted.blocks - after;
-    }
-
-    // Takes out the place of a birth that has one holder. It takes no memory.
-    pub fn take(&mut self, birth: u128) -> ContentRuns
-        requires { holders_in (fin.get self.old.held birth) ≡ 1 }
-        ensures runs { result ≡ runs_in (fin.get self.old.held birth) }
-        ensures held { self.new.held ≡ fin.remove self.old.held birth }
-        ensures spare { self.old.spare ≤ self.new.spare }
-    {
-        let Some(counted) = self.entries.remove(&birth) else {
-            unreachable!();
-        };
-        let Counted { runs, blocks, .. } = counted;
-        self.live -= blocks;
-        runs
-    }
-
-    // Puts the place of a birth that has none, held by nobody.
-    pub fn insert(&mut self, birth: u128, runs: ContentRuns) -> Mem<()>
-        requires new { fin.get self.old.held birth ≡ None }
-        requires free { IsFree self.old.held runs }
-        ensures ok { OnOk result (self.new.held ≡ fin.insert self.old.held birth (unheld_place runs)) }
-        ensures room { GrowsWithin self.old self.new 1 result }
-    {
-        let blocks = count_blocks(runs.as_slice());
-        let place = Counted {
-            runs,
-            blocks,
-            holders: 0,
-        };
-        self.entries.insert(birth, place)?;
-        Ok(())
-    }
-
-    // One holder more at each of some births. It takes no memory.
-    pub fn raise_all(&mut self, births: &[u128])
-        requires rising { IsRising births.now }
-        requires few { AreFew self.old.held births.now }
-        ensures changed { AreChanged raised self.old.held births.now self.new.held }
-        ensures spare { self.new.spare ≡ self.old.spare }
-    {
-        for birth in births {
-            self.raise(*birth);
-        }
-    }
-
-    // One holder fewer at each of some births. It takes no memory.
-    pub fn lower_all(&mut self, births: &[u128])
-        requires rising { IsRising births.now }
-        requires held { AreHeld self.old.held births.now }
-        ensures changed { AreChanged lowered self.old.held births.now self.new.held }
-        ensures spare { self.new.spare ≡ self.old.spare }
-    {
-        for birth in births {
-            self.lower(*birth);
-        }
     }
 
     // The number of holders of a birth, none where it has no place.
@@ -223,70 +148,215 @@ impl PlaceMap {
         }
     }
 
+    // The runs of a birth that some holder holds.
+    pub fn runs_of(&self, birth: u128) -> Option<&ContentRuns>
+        ensures { option_copied result ≡ live_runs (fin.get self.now.held birth) }
+    {
+        match self.get(birth) {
+            Some(counted) => runs_if_held(counted),
+            None => None,
+        }
+    }
+
     // The number of blocks of a birth's place, none where it has no place.
     pub fn blocks_of(&self, birth: u128) -> u64
         ensures { result ≡ length (blocks_in (runs_in (fin.get self.now.held birth))) }
     {
         match self.entries.get(&birth) {
-            Some(counted) => counted.blocks,
+            Some(counted) => counted.runs.block_count(),
             None => 0,
         }
     }
 
-    // The number of births that one holder holds.
-    pub fn count_last(&self, births: &[u128]) -> u64
-        ensures { result ≡ length (last_held self.now.held births.now) }
+    // The number of blocks of places that some holder holds.
+    pub fn live_blocks(&self) -> u64
+        ensures live { result ≡ live_sum self.now.held }
+        ensures few { result ≤ 2 ^ 32 }
     {
-        let mut count = 0u64;
-        for at in 0..births.len() {
-            if self.holders_of(births[at]) == 1 {
-                count += 1;
-            }
-        }
-        count
+        self.live
+    }
+
+    // Puts the place of a birth that has none, held by nobody.
+    pub fn insert(&mut self, birth: u128, runs: ContentRuns) -> Mem<()>
+        requires new { fin.get self.old.held birth ≡ None }
+        requires free { IsFree self.old.held runs }
+        ensures ok { OnOk result (self.new.held ≡ fin.insert self.old.held birth (without_holder runs)) }
+        ensures room { GrowsWithin self.old self.new 1 1 result }
+    {
+        self.make_room(1)?;
+        insert_within(&mut self.entries, birth, Counted { runs, holders: 0 });
+        Ok(())
+    }
+
+    // One holder more at a birth that has a place. It takes no memory.
+    fn raise(&mut self, birth: u128)
+        requires placed { IsSome (fin.get self.old.held birth) }
+        requires few { holders_in (fin.get self.old.held birth) < 2 ^ 63 }
+        ensures changed { IsChangedAt with_one_more self.old.held birth self.new.held }
+        ensures spare { self.new.spare ≡ self.old.spare }
+    {
+        let Some(counted) = self.entries.get_mut(&birth) else {
+            unreachable!();
+        };
+        self.live += blocks_if_unheld(counted);
+        counted.holders += 1;
+    }
+
+    // One holder fewer at a birth that has more than one. It takes no memory.
+    fn lower(&mut self, birth: u128)
+        requires { 2 ≤ holders_in (fin.get self.old.held birth) }
+        ensures changed { IsChangedAt with_one_fewer self.old.held birth self.new.held }
+        ensures spare { self.new.spare ≡ self.old.spare }
+    {
+        let Some(counted) = self.entries.get_mut(&birth) else {
+            unreachable!();
+        };
+        counted.holders -= 1;
+    }
+
+    // Takes out the place of a birth that has one holder. It takes no memory.
+    fn take(&mut self, birth: u128) -> ContentRuns
+        requires { holders_in (fin.get self.old.held birth) ≡ 1 }
+        ensures runs { result ≡ runs_in (fin.get self.old.held birth) }
+        ensures changed { IsChangedAt with_one_fewer self.old.held birth self.new.held }
+        ensures spare { self.old.spare ≤ self.new.spare }
+    {
+        let Some(counted) = self.entries.remove(&birth) else {
+            unreachable!();
+        };
+        self.live -= counted.runs.block_count();
+        counted.runs
     }
 
     // One holder fewer at a birth, whose place goes into a list with room for it where that was the last. It takes no
     // memory.
-    pub fn release(&mut self, birth: u128, into: &mut RunsList)
+    fn release(&mut self, birth: u128, into: &mut UnheldPlaces)
         requires held { 1 ≤ holders_in (fin.get self.old.held birth) }
-        requires room { length (last_held self.old.held (birth ∷ [])) ≤ into.old.spare }
-        ensures changed { IsChangedAt released self.old.held birth self.new.held }
-        ensures into { into.new.held ≡ into.old.held ++ runs_of self.old.held (last_held self.old.held (birth ∷ [])) }
+        requires room { length (last_births self.old.held (birth ∷ [])) ≤ into.old.spare }
+        ensures changed { IsChangedAt with_one_fewer self.old.held birth self.new.held }
+        ensures into { into.new.held ≡ into.old.held ++ runs_of_births self.old.held (last_births self.old.held (birth ∷ [])) }
         ensures spare { self.old.spare ≤ self.new.spare }
-        ensures into_spare { into.old.spare ≤ into.new.spare + length (last_held self.old.held (birth ∷ [])) }
+        ensures into_spare { into.old.spare ≤ into.new.spare + length (last_births self.old.held (birth ∷ [])) }
     {
         if self.holders_of(birth) == 1 {
             let runs = self.take(birth);
-            match into.push(runs) {
-                Ok(()) => {}
-                Err(_) => unreachable!(),
-            }
+            into.push_within(BirthRuns { birth, runs });
         } else {
             self.lower(birth);
         }
     }
 
+    // One holder more at each of some births. It takes no memory.
+    fn raise_all(&mut self, births: &[u128])
+        requires rising { IsRising births.now }
+        requires few { AreFew self.old.held births.now }
+        ensures changed { AreChanged with_one_more self.old.held births.now self.new.held }
+        ensures spare { self.new.spare ≡ self.old.spare }
+    {
+        for birth in births {
+            self.raise(*birth);
+        }
+    }
+
     // One holder fewer at each of some births, whose places go into a list with room for them where that was the last. It
     // takes no memory.
-    pub fn release_all(&mut self, births: &[u128], into: &mut RunsList)
+    fn release_all(&mut self, births: &[u128], into: &mut UnheldPlaces)
         requires rising { IsRising births.now }
         requires held { AreHeld self.old.held births.now }
-        requires room { length (last_held self.old.held births.now) ≤ into.old.spare }
-        ensures changed { AreChanged released self.old.held births.now self.new.held }
-        ensures into { into.new.held ≡ into.old.held ++ runs_of self.old.held (last_held self.old.held births.now) }
+        requires room { length (last_births self.old.held births.now) ≤ into.old.spare }
+        ensures changed { AreChanged with_one_fewer self.old.held births.now self.new.held }
+        ensures into { into.new.held ≡ into.old.held ++ runs_of_births self.old.held (last_births self.old.held births.now) }
         ensures spare { self.old.spare ≤ self.new.spare }
-        ensures into_spare { into.old.spare ≤ into.new.spare + length (last_held self.old.held births.now) }
+        ensures into_spare { into.old.spare ≤ into.new.spare + length (last_births self.old.held births.now) }
     {
         for birth in births {
             self.release(*birth, into);
         }
     }
 
-    // Gives each birth its new place. It takes no memory.
+    // Whether one holder holds a birth once a rising list of births is held once more.
+    fn is_lone(&self, birth: u128, more: &[u128]) -> bool
+        requires { IsRising more.now }
+        ensures { result ≡ (holders_in (fin.get self.now.held birth) + cond (has_birth more.now birth) 1 0 == 1) }
+    {
+        if has(more, birth) {
+            self.holders_of(birth) == 0
+        } else {
+            self.holders_of(birth) == 1
+        }
+    }
+
+    // The number of births of a list that one holder holds once a rising list of others is held once more.
+    fn count_lone(&self, births: &[u128], more: &[u128]) -> u64
+        requires { IsRising more.now }
+        ensures { result ≡ length (lone_births self.now.held more.now births.now) }
+    {
+        let mut count = 0u64;
+        for at in 0..births.len() {
+            if self.is_lone(births[at], more) {
+                count += 1;
+            }
+        }
+        count
+    }
+
+    // One holder more at each of the new births, and one fewer at each of the old ones, whose places go to the end of a list
+    // where that was the last.
+    pub fn exchange(&mut self, old: &[u128], new: &[u128], into: &mut UnheldPlaces) -> Mem<()>
+        requires old { IsRising old.now }
+        requires new { IsRising new.now }
+        requires held { AreHeld self.old.held old.now }
+        requires few { AreFew self.old.held new.now }
+        ensures changed { OnOk result (AreExchanged self.old.held old.now new.now self.new.held) }
+        ensures into { OnOk result (into.new.held ≡ into.old.held ++ runs_of_births self.old.held (lone_births self.old.held new.now old.now)) }
+        ensures room { MovesWithin self.old self.new 0 0 into.old into.new (length (lone_births self.old.held new.now old.now)) result }
+    {
+        into.make_room(self.count_lone(old, new))?;
+        self.raise_all(new);
+        self.release_all(old, into);
+        Ok(())
+    }
+
+    // Puts a copy of a birth's runs into a tree, where some holder holds the birth.
+    fn copy_live(&self, birth: u128, found: &mut BTreeMap<u128, ContentRuns>) -> Mem<()>
+        ensures { OnOk result ((q : ℕ) → tree.get nat_cmp found.new q
+            ≡ cond (q == birth) (or_else (live_runs (fin.get self.now.held birth)) (tree.get nat_cmp found.old q)) (tree.get nat_cmp found.old q)) }
+    {
+        let Some(runs) = self.runs_of(birth) else {
+            return Ok(());
+        };
+        found.insert(birth, runs.copy()?)?;
+        Ok(())
+    }
+
+    // Copies of the runs of the births that some holder holds, in order.
+    fn live_tree(&self, alloc: Global) -> Mem<BTreeMap<u128, ContentRuns>>
+        ensures { IfOk result (λ found. (q : ℕ) → tree.get nat_cmp found q ≡ live_runs (fin.get self.now.held q)) }
+    {
+        let mut found = BTreeMap::new(alloc);
+        for birth in self.entries.keys() {
+            self.copy_live(*birth, &mut found)?;
+        }
+        Ok(found)
+    }
+
+    // The births that some holder holds with their places, in rising order.
+    pub fn places(&self, alloc: Global) -> Mem<BirthRunsList>
+        ensures places { IfOk result (λ places. places ≡ map (λ e. record { birth = e.0; runs = e.1 }) (fin.entries (live_places_in self.now.held))) }
+        ensures placed { IfOk result (λ places. ArePlaced places (2 ^ 32)) }
+    {
+        let _ = &self.live;
+        let mut places = List::new(alloc);
+        for (birth, runs) in self.live_tree(alloc)? {
+            places.push(BirthRuns { birth, runs })?;
+        }
+        Ok(places)
+    }
+
+    // Gives each birth that some holder holds its new place. It takes no memory.
     pub fn shift(&mut self, shifts: ShiftList)
-        requires { AreSafeShifts (places_in self.old.held) shifts }
-        ensures changed { (q : ℕ) → fin.get self.new.held q ≡ shifted shifts q (fin.get self.old.held q) }
+        requires { AreSafeShifts (live_places_in self.old.held) (waiting_places_in self.old.held) shifts }
+        ensures changed { (q : ℕ) → fin.get self.new.held q ≡ with_shifts shifts q (fin.get self.old.held q) }
         ensures spare { self.new.spare ≡ self.old.spare }
     {
         shift_all(&mut self.entries, shifts.into_vec());

@@ -2,16 +2,15 @@
 ghost use Rattle.std.specs.Prelude.{◌≡◌, ◌≢◌, ◌+◌, ◌-◌, ◌≤◌, ◌<◌, ◌^◌, ◌==◌, cond, true, Some, ℕ, AllPairs, IfOk, OnOk};
 ghost use Rattle.std.specs.FinMap as fin;
 ghost use Rattle.sf_types.specs.Inside.Births.{IsRising};
-ghost use Rattle.sf_lifetimes.specs.Counts.{AreHeld, has_birth, holders_in};
-ghost use Rattle.sf_lifetimes.specs.Counted.{places_in, IsCountedBy};
-ghost use Rattle.sf_lifetimes.specs.Ledgers.{LedgerView, freed_by};
-ghost use Rattle.sf_lifetimes.specs.Tallies.{freed_sum, left_of, counted_off};
-ghost use Rattle.sf_lifetimes.specs.Bounds.{IsBounded};
+ghost use Rattle.sf_lifetimes.specs.Inside.Counts.{AreHeld, holders_in};
+ghost use Rattle.sf_lifetimes.specs.Inside.Counted.{places_in, IsCountedBy};
+ghost use Rattle.sf_lifetimes.specs.Ledgers.{LedgerView, has_birth, freed_by};
+ghost use Rattle.sf_lifetimes.specs.Inside.Tallies.{freed_sum, left_of, counted_off};
+ghost use Rattle.sf_lifetimes.specs.Inside.Bounds.{IsBounded};
 
-use crate::holder::Holder;
-use crate::holder_map::HolderMap;
+use crate::holding_map::HoldingMap;
 use crate::place_map::PlaceMap;
-use sf_types::Mem;
+use sf_types::{Holder, Mem};
 use std::alloc::Global;
 use std::collections::HashMap;
 use std::marker::Model;
@@ -35,7 +34,7 @@ impl Model for TallyMap {
     ghost use Rattle.std.specs.Coded.{coded_ℕ};
     ghost use Rattle.std.specs.FinMap as fin;
     ghost use Rattle.sf_lifetimes.specs.contracts.tally.Tally as tally;
-    ghost use Rattle.sf_lifetimes.specs.Tallies.{Tallies, freed_sum};
+    ghost use Rattle.sf_lifetimes.specs.Inside.Tallies.{Tallies, freed_sum};
 
     ghost Value = { Tallies };
 
@@ -117,7 +116,7 @@ fn count_births(tally: &mut TallyMap, places: &PlaceMap, births: &[u128]) -> Mem
 pub fn freed_blocks(
     alloc: Global,
     places: &PlaceMap,
-    holdings: &HolderMap,
+    holdings: &HoldingMap,
     holders: &[Holder],
 ) -> Mem<u64>
     requires counted { IsCountedBy places.now.held holdings.now.held }

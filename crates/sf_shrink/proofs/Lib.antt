@@ -1,1 +1,1 @@
-mod PlannedBlocks
+pub mod PlanLemmas

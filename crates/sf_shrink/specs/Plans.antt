@@ -1,24 +1,23 @@
--- Where contents go when the store is made small.
+-- Where contents go when the store is made small. The plan is our own.
 use Rattle.std.specs.Prelude.{◌≡◌, ◌≢◌, ℕ, ◌+◌, ◌<◌, ◌≤◌, List, [], ◌∷◌, map, length, flat_map, All, AllPairs}
 use Rattle.std.specs.List.{range_with_len}
-use Rattle.sf_types.specs.declared.place.Place.{Place}
+use Rattle.sf_types.specs.declared.birth_runs.BirthRuns.{BirthRuns}
 use Rattle.sf_types.specs.Inside.Births.{IsRising}
 use Rattle.sf_types.specs.Space.BlockRuns.{blocks_in}
 use Rattle.sf_shrink.specs.declared.shifts.Shift.{Shift}
 
 -- The blocks of all places.
-abbrev pub placed_blocks : List Place → List ℕ
-placed_blocks places = flat_map (λ place. blocks_in place.runs) places
+abbrev pub blocks_of_places : List BirthRuns → List ℕ
+blocks_of_places places = flat_map (λ place. blocks_in place.runs) places
 
--- Places with rising births, of one block or more each, all below the capacity and none named twice.
-pub record ArePlaced (places : List Place) (capacity : ℕ) : Type 0 where
+-- Places with rising births, all blocks below the capacity and none named twice.
+pub record ArePlaced (places : List BirthRuns) (capacity : ℕ) : Type 0 where
   pub births : IsRising (map (λ place. place.birth) places)
-  pub some : All (λ place. 1 ≤ length (blocks_in place.runs)) places
-  pub below : All (λ block. block < capacity) (placed_blocks places)
-  pub once : AllPairs (λ block other. block ≢ other) (placed_blocks places)
+  pub below : All (λ block. block < capacity) (blocks_of_places places)
+  pub once : AllPairs (λ block other. block ≢ other) (blocks_of_places places)
 
 -- Each birth in its order gets one run of as many blocks as it has, which begins where the one before it ends.
-abbrev pub planned_from : ℕ → List Place → List Shift
+abbrev pub planned_from : ℕ → List BirthRuns → List Shift
 planned_from start [] = []
 planned_from start (place ∷ places) =
     let blocks = length (blocks_in place.runs) in
@@ -26,17 +25,17 @@ planned_from start (place ∷ places) =
     ∷ planned_from (start + blocks) places
 
 -- The first run begins at block 0.
-abbrev pub planned : List Place → List Shift
+abbrev pub planned : List BirthRuns → List Shift
 planned places = planned_from 0 places
 
 -- The blocks of all shifts.
-abbrev pub shifted_blocks : List Shift → List ℕ
-shifted_blocks shifts = flat_map (λ shift. blocks_in shift.to) shifts
+abbrev pub blocks_of_shifts : List Shift → List ℕ
+blocks_of_shifts shifts = flat_map (λ shift. blocks_in shift.to) shifts
 
 -- Shifts that are a safe placing without a gap: the same births, each with as many blocks as before, and together the
 -- blocks from 0 on, each once, below the capacity.
-pub record IsSafeWithoutGap (places : List Place) (shifts : List Shift) (capacity : ℕ) : Type 0 where
+pub record IsSafeWithoutGap (places : List BirthRuns) (shifts : List Shift) (capacity : ℕ) : Type 0 where
   pub births : map (λ shift. shift.birth) shifts ≡ map (λ place. place.birth) places
   pub counts : map (λ shift. length (blocks_in shift.to)) shifts ≡ map (λ place. length (blocks_in place.runs)) places
-  pub blocks : shifted_blocks shifts ≡ range_with_len 0 (length (placed_blocks places))
-  pub below : length (placed_blocks places) ≤ capacity
+  pub blocks : blocks_of_shifts shifts ≡ range_with_len 0 (length (blocks_of_places places))
+  pub below : length (blocks_of_places places) ≤ capacity

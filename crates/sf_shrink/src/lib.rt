@@ -3,7 +3,7 @@
 
 mod shifts;
 
-pub use shifts::{Shift, ShiftList, plan};
+pub use shifts::{MOST_BLOCKS, Shift, ShiftList, plan};
 
 #[cfg(test)]
 mod tests;

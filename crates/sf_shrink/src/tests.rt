@@ -1,37 +1,33 @@
 ghost use Rattle.std.specs.Prelude.{◌≡◌, [], ◌∷◌, IfOk};
+ghost use Rattle.sf_shrink.specs.declared.shifts.TheConstants.{MOST_BLOCKS};
 ghost use Rattle.sf_shrink.specs.Plans.{ArePlaced};
 
 use crate::shifts::{ShiftList, plan};
-use sf_types::{ContentRuns, Mem, Place, PlaceList, Run, Sum};
+use sf_types::{BirthRuns, BirthRunsList, ContentRuns, Mem, Run};
 use std::alloc::Global;
 use std::test::*;
 
-// A place of one run. Its length and its digest don't matter here.
-fn place(alloc: Global, birth: u128, first: u32, blocks: u32) -> Mem<Place>
+// A place of one run.
+fn place(alloc: Global, birth: u128, first: u32, blocks: u32) -> Mem<BirthRuns>
     ensures { IfOk result (λ place. (place.birth ≡ birth) × (place.runs ≡ record { first = first; blocks = blocks } ∷ [])) }
 {
     let mut runs = ContentRuns::new(alloc);
     runs.push(Run { first, blocks })?;
-    Ok(Place {
-        birth,
-        len: 512,
-        sum: Sum::new([0u8; 32]),
-        runs,
-    })
+    Ok(BirthRuns { birth, runs })
 }
 
 // Birth 3 at the blocks 5 and 6, birth 7 at the block 0.
-fn places(alloc: Global) -> Mem<PlaceList>
-    ensures { IfOk result (λ places. ArePlaced places 8) }
+fn places(alloc: Global) -> Mem<BirthRunsList>
+    ensures { IfOk result (λ places. ArePlaced places MOST_BLOCKS) }
 {
-    let mut places = PlaceList::new(alloc);
+    let mut places = BirthRunsList::new(alloc);
     places.push(place(alloc, 3, 5, 2)?)?;
     places.push(place(alloc, 7, 0, 1)?)?;
     Ok(places)
 }
 
 fn shifts(alloc: Global) -> Mem<ShiftList> {
-    plan(alloc, &places(alloc)?, 8)
+    plan(alloc, &places(alloc)?)
 }
 
 #[test]

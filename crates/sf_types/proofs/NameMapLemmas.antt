@@ -59,7 +59,7 @@ ordering_less Less p = refl
 ordering_less Equal p = absurd p
 ordering_less Greater p = absurd p
 
-equal : (r : Ordering) → is_eq r ≡ true → r ≡ Equal
+pub equal : (r : Ordering) → is_eq r ≡ true → r ≡ Equal
 equal Less p = absurd cc
 equal Equal p = refl
 equal Greater p = absurd cc

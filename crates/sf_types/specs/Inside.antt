@@ -1,3 +1,4 @@
--- Words that serve the definitions: finite maps from names, and rising lists of births.
+-- Words that serve the definitions: finite maps from names, rising lists of births, and the order of holders.
 pub mod NameMaps
 pub mod Births
+pub mod Holders

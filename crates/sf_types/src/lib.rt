@@ -1,6 +1,7 @@
 //! The plain types of the store, and its rules as definitions (`specs/`).
 #![tactic(auto)]
 
+mod birth_runs;
 mod births;
 mod blob;
 mod call;
@@ -8,6 +9,7 @@ mod call_copy;
 mod closed;
 mod copy;
 mod history;
+mod holder;
 mod limits;
 mod list;
 mod memory;
@@ -23,12 +25,14 @@ mod run;
 mod sum;
 mod text;
 
+pub use birth_runs::{BirthRuns, BirthRunsList};
 pub use births::Births;
 pub use blob::{Blob, BlobList};
 pub use call::{Call, CallList, CallTable};
 pub use closed::Closed;
 pub use copy::{Exact, TryCopy};
 pub use history::{Entry, History, Kind, Order, Token};
+pub use holder::{Holder, HolderList};
 pub use limits::{
     BLOCK_BYTES, BUFFER_BYTES, CONTENT_BYTES, LEAST_GATHER_BYTES, LOCATOR_NAME_BYTES,
     MOST_GATHER_BYTES, OBJECT_BYTES, RETAINED_COMMITS, ROW_NAME_BYTES, SESSION_LOCATORS,
@@ -44,6 +48,6 @@ pub use played::Played;
 pub use reply::{Fault, Reply, ReplyList, ReplyTable};
 pub use room_list::RoomList;
 pub use row_end::{RowEnd, RowList};
-pub use run::{ContentRuns, Run, Runs, RunsList};
+pub use run::{ContentRuns, Run, Runs};
 pub use sum::{Sum, sum_of};
 pub use text::{push_decimal, push_hex, push_reply, reply_text};

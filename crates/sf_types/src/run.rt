@@ -1,4 +1,6 @@
 //! Runs of blocks.
+ghost use Rattle.std.specs.Prelude.{◌≡◌, ◌<◌, ◌^◌, length};
+ghost use Rattle.sf_types.specs.Space.BlockRuns.{blocks_in};
 
 use crate::copy::TryCopy;
 use crate::list::List;
@@ -24,5 +26,16 @@ pub type Runs = RoomList<Run>;
 /// The runs of one content, in the order of its blocks.
 pub type ContentRuns = List<Run>;
 
-/// The runs of several contents, with room for more.
-pub type RunsList = RoomList<ContentRuns>;
+impl List<Run> {
+    /// The number of blocks of all runs.
+    pub fn block_count(&self) -> u64
+        requires { length (blocks_in self.now) < 2 ^ 64 }
+        ensures { result ≡ length (blocks_in self.now) }
+    {
+        let mut count = 0u64;
+        for run in self.as_slice() {
+            count += u64::from(run.blocks);
+        }
+        count
+    }
+}

@@ -2,17 +2,12 @@
 use Rattle.std.specs.Prelude.{ℕ, ◌+◌, ◌-◌, Bool, ◌||◌, nat_lt, List, [], ◌∷◌, ◌++◌, map, take, drop, filter_map, flat_map, slice_index_or, Option, Some, None, is_none, if◌then◌else◌}
 use Rattle.std.specs.List.{range_with_len}
 use Rattle.std.specs.Option.{option_map_or}
+use Rattle.sf_types.specs.declared.holder.Holder.{Holder}
+use Rattle.sf_types.specs.declared.holder.Holder.TheVariants as holder
 use Rattle.sf_types.specs.Inside.Births.{rising_births}
 use Rattle.sf_types.specs.Values.Marks.{Value, births_in}
 use Rattle.sf_types.specs.Table.Parts.{Rows, Session, Table}
 use Rattle.sf_types.specs.Table.Versions.{last_change, commit_count, present_values}
-
--- Who holds births: a version of a row, by the number of the commit that made it; a session with its values; a session's
--- standing promise.
-pub data Holder : Type 0 where
-  OfVersion : (row : List ℕ) (commit : ℕ) → Holder
-  OfSession : (session : ℕ) → Holder
-  OfPromise : (session : ℕ) → Holder
 
 -- What a holder holds: a rising list of births.
 pub record Holding : Type 0 where
@@ -28,7 +23,7 @@ is_kept t row n = nat_lt t.floor n || is_none (last_change (drop n (take t.floor
 abbrev pub version_holding : Table → ℕ → List ℕ × Option Value → Option Holding
 version_holding t n (row, None) = None
 version_holding t n (row, Some v) =
-    if is_kept t row n then Some (record { holder = OfVersion row n; births = births_in v }) else None
+    if is_kept t row n then Some (record { holder = holder.Version row n; births = births_in v }) else None
 
 -- The kept versions of all rows.
 abbrev pub version_holdings : Table → List Holding
@@ -52,13 +47,13 @@ session_births p = rising_births (flat_map births_in (session_values p))
 
 -- A standing promise holds the births that it found.
 abbrev pub promise_holding : ℕ → Session → List Holding
-promise_holding s p = option_map_or (λ q. record { holder = OfPromise s; births = q.births } ∷ []) p.promise []
+promise_holding s p = option_map_or (λ q. record { holder = holder.Promise s; births = q.births } ∷ []) p.promise []
 
 -- What each session of a list and its promise hold. The first of the list has the number s.
 abbrev pub session_holdings : ℕ → List Session → List Holding
 session_holdings s [] = []
 session_holdings s (p ∷ ps) =
-    record { holder = OfSession s; births = session_births p } ∷ promise_holding s p ++ session_holdings (s + 1) ps
+    record { holder = holder.Session s; births = session_births p } ∷ promise_holding s p ++ session_holdings (s + 1) ps
 
 -- What all holders hold.
 abbrev pub holdings : Table → List Holding

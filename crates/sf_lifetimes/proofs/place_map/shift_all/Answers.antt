@@ -1,7 +1,7 @@
 use Rattle.std.proofs.Common.{◌≡◌, ◌∙◌, ◌++◌, [], ◌∷◌, rules}
 use Rattle.std.specs.FinMap as fin
-use Rattle.sf_lifetimes.specs.Counts.{CountedMap}
-use Rattle.sf_lifetimes.proofs.ShiftLaws.{shift_more}
+use Rattle.sf_lifetimes.specs.Inside.Counts.{CountedMap}
+use Rattle.sf_lifetimes.proofs.ShiftLemmas.{shift_more}
 use Rattle.sf_lifetimes.proofs.place_map.shift_all.Goals as goal
 
 pub loop-shift-preserved : goal.loop-shift-preserved

@@ -1,10 +1,10 @@
 use Rattle.std.proofs.Common.{◌∙◌, ◌-◌, ap, arith, cond, get_or, Some}
 use Rattle.std.specs.Prelude.{◌==◌}
 use Rattle.std.specs.FinMap as fin
-use Rattle.sf_lifetimes.specs.Counts.{holders_in}
-use Rattle.sf_lifetimes.specs.Tallies.{left_of, counted_off}
-use Rattle.sf_lifetimes.proofs.CountLaws.{point_same, point_next, has_own}
-use Rattle.sf_lifetimes.proofs.TallyLaws.{freed_few, off_bounded, size_few}
+use Rattle.sf_lifetimes.specs.Inside.Counts.{holders_in}
+use Rattle.sf_lifetimes.specs.Inside.Tallies.{left_of, counted_off}
+use Rattle.sf_lifetimes.proofs.CountLemmas.{point_same, point_next, has_own}
+use Rattle.sf_lifetimes.proofs.TallyLemmas.{freed_few, off_bounded, size_few}
 use Rattle.sf_lifetimes.proofs.tally.count_births.Goals as goal
 
 pub count-requires-clause-some : goal.count-requires-clause-some

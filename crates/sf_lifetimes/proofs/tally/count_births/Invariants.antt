@@ -1,7 +1,8 @@
 use Rattle.std.proofs.Common.{◌≡◌, ◌≤◌, ◌^◌, ℕ, cond, take}
 use Rattle.std.specs.FinMap as fin
-use Rattle.sf_lifetimes.specs.Counts.{has_birth, live_sum}
-use Rattle.sf_lifetimes.specs.Tallies.{counted_off}
+use Rattle.sf_lifetimes.specs.Ledgers.{has_birth}
+use Rattle.sf_lifetimes.specs.Inside.Counts.{live_sum}
+use Rattle.sf_lifetimes.specs.Inside.Tallies.{counted_off}
 use Rattle.sf_lifetimes.proofs.tally.count_births.Given as goal
 
 -- a holder of each birth before this one was counted off

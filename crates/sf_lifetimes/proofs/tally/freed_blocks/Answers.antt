@@ -2,12 +2,12 @@ use Rattle.std.proofs.Common.{◌∙◌, ◌≤◌, ap, sym, subst, arith, cond,
 use Rattle.std.specs.Ordering.{nat_cmp}
 use Rattle.std.specs.FinMap as fin
 use Rattle.std.specs.FinMap.{get-empty}
-use Rattle.sf_lifetimes.specs.Counts.{AreHeld, has_birth, holders_in}
-use Rattle.sf_lifetimes.specs.Ledgers.{held_by}
-use Rattle.sf_lifetimes.specs.Tallies.{left_of, counted_off, tally_of, number_among}
-use Rattle.sf_lifetimes.specs.Bounds.{freed_at, live_at}
-use Rattle.sf_lifetimes.proofs.LedgerLaws.{are_held}
-use Rattle.sf_lifetimes.proofs.TallyLaws.{tally_left, tally_bounded, tally_more, among_few, among_next, freed_is}
+use Rattle.sf_lifetimes.specs.Inside.Counts.{AreHeld, holders_in}
+use Rattle.sf_lifetimes.specs.Ledgers.{has_birth, held_by}
+use Rattle.sf_lifetimes.specs.Inside.Tallies.{left_of, counted_off, tally_of, number_among}
+use Rattle.sf_lifetimes.specs.Inside.Bounds.{freed_at, live_at}
+use Rattle.sf_lifetimes.proofs.LedgerLemmas.{are_held}
+use Rattle.sf_lifetimes.proofs.TallyLemmas.{tally_left, tally_bounded, tally_more, among_few, among_next, freed_is}
 use Rattle.sf_lifetimes.proofs.tally.freed_blocks.Goals as goal
 
 pub loop-holder-init : goal.loop-holder-init

@@ -1,6 +1,6 @@
 use Rattle.std.proofs.Common.{◌≡◌, ℕ, take}
 use Rattle.std.specs.FinMap as fin
-use Rattle.sf_lifetimes.specs.Tallies.{tally_of, number_among}
+use Rattle.sf_lifetimes.specs.Inside.Tallies.{tally_of, number_among}
 use Rattle.sf_lifetimes.proofs.tally.freed_blocks.Given as goal
 
 -- the holders before this one were counted off

@@ -1,8 +1,8 @@
-use Rattle.std.proofs.Common.{◌∙◌, ap, sym, subst}
+use Rattle.std.proofs.Common.{◌∙◌, ap, sym, subst, arith}
 use Rattle.std.specs.FinMap as fin
-use Rattle.sf_lifetimes.specs.Counted.{places_in, IsCountedBy}
+use Rattle.sf_lifetimes.specs.Inside.Counted.{places_in, IsCountedBy}
 use Rattle.sf_lifetimes.specs.Ledgers.{IsNewPlace}
-use Rattle.sf_lifetimes.proofs.LedgerLaws.{unplaced, get_places, new_is_free, counted_placed, places_placed}
+use Rattle.sf_lifetimes.proofs.LedgerLemmas.{unplaced, get_places, new_is_free, counted_placed, places_placed}
 use Rattle.sf_lifetimes.proofs.ledger.Ledger.place.Goals as goal
 
 pub insert-requires-clause-new : goal.insert-requires-clause-new
@@ -18,8 +18,12 @@ pub invariant_of-self-2 : goal.invariant_of-self-2
 invariant_of-self-2 c =
     let none = unplaced (fin.get c.self.inside.places.held c.args.birth)
     (sym (get_places c.self.inside.places.held c.args.birth) ∙ ap (λ v. fin.get v.held.places c.args.birth) c.self.view_is ∙ c.requires.birth) in
-    subst (λ m. IsCountedBy m c.self.inside.holdings.held) (sym c.in_ok-insert.ensures.ok)
-    (counted_placed c.self.inside.places.held c.self.inside.holdings.held c.args.birth c.args.runs none c.self.invariant)
+    record {
+      counted = subst (λ m. IsCountedBy m c.self.inside.holdings.held) (sym c.in_ok-insert.ensures.ok)
+          (counted_placed c.self.inside.places.held c.self.inside.holdings.held c.args.birth c.args.runs none c.self.invariant.counted);
+      places_room = omega (arith, c.self.invariant.places_room, c.in_ok-insert.ensures.room.spare);
+      holdings_room = omega (arith, c.self.invariant.holdings_room);
+    }
 
 pub returns-clause-places : goal.returns-clause-places
 returns-clause-places c =

@@ -1,6 +1,6 @@
 use Rattle.std.proofs.Common.{◌∙◌, ap, sym}
 use Rattle.std.specs.FinMap as fin
-use Rattle.sf_lifetimes.proofs.ByBirth.{get_is}
+use Rattle.sf_lifetimes.proofs.BirthMapLemmas.{get_is}
 use Rattle.sf_lifetimes.proofs.place_map.PlaceMap.get.Goals as goal
 
 pub returns : goal.returns

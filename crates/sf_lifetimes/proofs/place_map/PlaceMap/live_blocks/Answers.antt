@@ -1,5 +1,5 @@
 use Rattle.std.specs.FinMap as fin
-use Rattle.sf_lifetimes.proofs.CountLaws.{few_live}
+use Rattle.sf_lifetimes.proofs.CountLemmas.{few_live}
 use Rattle.sf_lifetimes.proofs.place_map.PlaceMap.live_blocks.Goals as goal
 
 pub returns-clause-few : goal.returns-clause-few

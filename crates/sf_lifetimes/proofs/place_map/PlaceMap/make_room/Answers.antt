@@ -1,7 +1,7 @@
 use Rattle.std.proofs.Common.{◌∙◌, ap, sym, rules, arith}
 use Rattle.std.proofs.Common.{subst}
-use Rattle.sf_lifetimes.specs.Counts.{IsCounted}
-use Rattle.sf_lifetimes.proofs.ByBirth.{reordered}
+use Rattle.sf_lifetimes.specs.Inside.Counts.{IsCounted}
+use Rattle.sf_lifetimes.proofs.BirthMapLemmas.{reordered}
 use Rattle.sf_lifetimes.proofs.place_map.PlaceMap.make_room.Goals as goal
 
 pub invariant_of-self-2 : goal.invariant_of-self-2

@@ -1,8 +1,10 @@
-use Rattle.std.proofs.Common.{◌≡◌, ◌∙◌, ap, sym, subst, arith, ◌-◌}
+use Rattle.std.proofs.Common.{◌≡◌, ◌∙◌, ap, sym, subst, arith, length, cond, ◌-◌}
+use Rattle.std.specs.Prelude.{◌==◌}
 use Rattle.std.specs.FinMap as fin
-use Rattle.sf_lifetimes.specs.Counts.{IsCounted, runs_in, holders_in}
-use Rattle.sf_lifetimes.proofs.ByBirth.{get_is, taken_out}
-use Rattle.sf_lifetimes.proofs.CountLaws.{taken_counted}
+use Rattle.sf_types.specs.Space.BlockRuns.{blocks_in}
+use Rattle.sf_lifetimes.specs.Inside.Counts.{CountedMap, IsCounted, runs_in, holders_in, with_one_fewer}
+use Rattle.sf_lifetimes.proofs.BirthMapLemmas.{get_is, taken_out}
+use Rattle.sf_lifetimes.proofs.CountLemmas.{few_in_place, taken_counted, taken_changed}
 use Rattle.sf_lifetimes.proofs.place_map.PlaceMap.take.Goals as goal
 
 pub unreachable-requires : goal.unreachable-requires
@@ -10,26 +12,37 @@ unreachable-requires c =
     let none = get_is c.self.inside.entries c.args.birth ∙ sym c.remove.ensures.value ∙ c.in_default.is in
     omega (arith, c.requires, ap (λ v. holders_in (fin.get v.held c.args.birth)) c.self.view_is, ap holders_in none)
 
+pub block_count-requires : goal.block_count-requires
+block_count-requires c =
+    let is = get_is c.self.inside.entries c.args.birth ∙ sym c.remove.ensures.value ∙ c.in-Some.is in
+    omega (arith, few_in_place (fin.from_entries c.self.inside.entries.entries) c.self.inside.live c.args.birth c.in-Some.counted is c.self.invariant)
+
 pub overflow_sub-self : goal.overflow_sub-self
 overflow_sub-self c =
     let old = c.in-Some.counted in
-    let m = fin.from_entries c.self.inside.entries.entries in
+    let m : CountedMap = fin.from_entries c.self.inside.entries.entries in
     let is = get_is c.self.inside.entries c.args.birth ∙ sym c.remove.ensures.value ∙ c.in-Some.is in
     let one : old.holders ≡ 1 = omega (arith, c.requires, ap holders_in (sym is), ap (λ v. holders_in (fin.get v.held c.args.birth)) c.self.view_is) in
-    (taken_counted m c.self.inside.live c.args.birth old one is c.self.invariant).0
+    omega (arith, (taken_counted m c.self.inside.live c.args.birth old one is c.self.invariant).0, c.block_count.ensures)
 
 pub invariant_of-self : goal.invariant_of-self
 invariant_of-self c =
     let old = c.in-Some.counted in
-    let m = fin.from_entries c.self.inside.entries.entries in
+    let m : CountedMap = fin.from_entries c.self.inside.entries.entries in
     let is = get_is c.self.inside.entries c.args.birth ∙ sym c.remove.ensures.value ∙ c.in-Some.is in
     let one : old.holders ≡ 1 = omega (arith, c.requires, ap holders_in (sym is), ap (λ v. holders_in (fin.get v.held c.args.birth)) c.self.view_is) in
-    subst (λ n. IsCounted n (c.self.inside.live - old.blocks)) (sym (taken_out c.self.inside.entries c.remove.new.self c.args.birth c.remove.ensures.updates.0)) (taken_counted m c.self.inside.live c.args.birth old one is c.self.invariant).1
+    subst (λ k. IsCounted (fin.from_entries c.remove.new.self.entries) (c.self.inside.live - k)) (sym c.block_count.ensures)
+    (subst (λ n. IsCounted n (c.self.inside.live - length (blocks_in old.runs))) (sym (taken_out c.self.inside.entries c.remove.new.self c.args.birth c.remove.ensures.updates.0)) (taken_counted m c.self.inside.live c.args.birth old one is c.self.invariant).1)
 
 pub returns-clause-runs : goal.returns-clause-runs
 returns-clause-runs c =
     let is = get_is c.self.inside.entries c.args.birth ∙ sym c.remove.ensures.value ∙ c.in-Some.is in
     ap runs_in (sym is) ∙ ap (λ v. runs_in (fin.get v.held c.args.birth)) c.self.view_is
 
-pub returns-clause-held : goal.returns-clause-held
-returns-clause-held c = taken_out c.self.inside.entries c.remove.new.self c.args.birth c.remove.ensures.updates.0 ∙ ap (λ v. fin.remove v.held c.args.birth) c.self.view_is
+pub returns-clause-changed : goal.returns-clause-changed
+returns-clause-changed c q =
+    let m : CountedMap = fin.from_entries c.self.inside.entries.entries in
+    let one : holders_in (fin.get m c.args.birth) ≡ 1 = ap (λ v. holders_in (fin.get v.held c.args.birth)) c.self.view_is ∙ c.requires in
+    ap (λ n. fin.get n q) (taken_out c.self.inside.entries c.remove.new.self c.args.birth c.remove.ensures.updates.0)
+    ∙ taken_changed m c.args.birth one q
+    ∙ ap (λ v. cond (q == c.args.birth) (with_one_fewer (fin.get v.held c.args.birth)) (fin.get v.held q)) c.self.view_is

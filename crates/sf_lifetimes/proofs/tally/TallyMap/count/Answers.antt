@@ -5,10 +5,10 @@ use Rattle.std.specs.FinMap.{get-insert}
 use Rattle.std.specs.Ordering.{nat_cmp}
 use Rattle.std.specs.Cmp.{nat_cmp_total, unsigned_ties}
 use Rattle.sf_lifetimes.specs.declared.tally.Tally.{Tally}
-use Rattle.sf_lifetimes.specs.Tallies.{Tallies, freed_sum, freed_in, left_of}
-use Rattle.sf_lifetimes.proofs.ByBirth.{put_at}
-use Rattle.sf_lifetimes.proofs.Sums.{sum-insert}
-use Rattle.sf_lifetimes.proofs.TallyLaws.{none_freed}
+use Rattle.sf_lifetimes.specs.Inside.Tallies.{Tallies, freed_sum, freed_in, left_of}
+use Rattle.sf_lifetimes.proofs.BirthMapLemmas.{put_at}
+use Rattle.sf_lifetimes.proofs.MapSumLemmas.{sum-insert}
+use Rattle.sf_lifetimes.proofs.TallyLemmas.{none_freed}
 use Rattle.sf_lifetimes.proofs.tally.TallyMap.count.Goals as goal
 
 pub invariant_of-self-2 : goal.invariant_of-self-2

@@ -1,8 +1,8 @@
 use Rattle.std.proofs.Common.{◌∙◌, ap, sym}
 use Rattle.std.specs.Option.{option_copied}
 use Rattle.std.specs.FinMap as fin
-use Rattle.sf_lifetimes.specs.Tallies.{left_of}
-use Rattle.sf_lifetimes.proofs.ByBirth.{get_is}
+use Rattle.sf_lifetimes.specs.Inside.Tallies.{left_of}
+use Rattle.sf_lifetimes.proofs.BirthMapLemmas.{get_is}
 use Rattle.sf_lifetimes.proofs.tally.TallyMap.left.Goals as goal
 
 pub returns-in-Some : goal.returns-in-Some

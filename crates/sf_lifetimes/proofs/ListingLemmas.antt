@@ -1,0 +1,163 @@
+-- The places of a ledger in order, and their blocks.
+use Rattle.std.proofs.Common.{◌≡◌, ℕ, ◌+◌, ◌^◌, ◌≤◌, ◌<◌, Bool, true, false, cond, nat_lt, List, [], ◌∷◌, ◌++◌, map, flat_map, Option, Some, None, refl, sym, ap, subst, ◌∙◌, arith}
+use Rattle.std.specs.Prelude.{◌==◌, ◌||◌, ◌≢◌, is_some, T, All, AllPairs}
+use Rattle.std.specs.List.{sum_by, count_by, AllByRecursion}
+use Rattle.std.specs.List.Sorted.{IsStrictlySortedBy}
+use Rattle.std.specs.Ordering.{nat_cmp, is_lt, is_eq}
+use Rattle.std.specs.declared.cmp.Ordering.TheVariants.{Less}
+use Rattle.std.specs.Cmp.{nat_cmp_total, ranked, unsigned_Decides}
+use Rattle.std.specs.Map.{keys_of, lookup}
+use Rattle.std.specs.FinMap as fin
+use Rattle.std.specs.FinMap.{nat_cmp-IsAntisymmetric, entries, entries_sorted, get-entries}
+use Rattle.std.specs.FinMap.Entries.{find, is_sorted, below_all, same_entries}
+use Rattle.std.proofs.lemmas.List.Elements.{All-from_recursion}
+use Rattle.std.proofs.lemmas.List.Sums.{sum_by-cons, sum_by-append}
+use Rattle.std.proofs.lemmas.Map.Made.{AllPairs-from_IsDistinct}
+use Rattle.sf_types.specs.declared.birth_runs.BirthRuns.{BirthRuns}
+use Rattle.sf_types.specs.declared.run.Run.{Run}
+use Rattle.sf_types.specs.Inside.Births.{IsBelowAll, IsRising}
+use Rattle.sf_types.specs.Space.BlockRuns.{blocks_in}
+use Rattle.sf_types.proofs.BoolLemmas.{first, second, both}
+use Rattle.sf_types.proofs.NumberLemmas.{own_number, same_number}
+use Rattle.sf_shrink.specs.Plans.{blocks_of_places, ArePlaced}
+use Rattle.sf_lifetimes.specs.declared.place_map.Counted.{Counted}
+use Rattle.sf_lifetimes.specs.Ledgers.{has_birth, occupied_blocks}
+use Rattle.sf_lifetimes.specs.Inside.Counts.{CountedMap, IsCounted, live_runs, or_else, times}
+use Rattle.sf_lifetimes.specs.Inside.Counted.{live_places_in, waiting_places_in}
+use Rattle.sf_lifetimes.proofs.MapSumLemmas.{weight, same_sum}
+use Rattle.sf_lifetimes.proofs.CountLemmas.{distinct, below, at_most_one}
+use Rattle.sf_lifetimes.proofs.LedgerLemmas.{waiting_runs, get_live, get_waiting}
+use Rattle.sf_types.proofs.NameMapLemmas.{ordering_less}
+
+-- how many times runs name a block
+abbrev pub times_named : ℕ → List Run → ℕ
+times_named block = λ runs. count_by (λ y. block == y) (blocks_in runs)
+
+pub named_in_all : (block : ℕ) (rs : List (List Run)) → count_by (λ y. block == y) (flat_map blocks_in rs) ≡ sum_by (times_named block) rs
+named_in_all block [] = refl
+named_in_all block (r ∷ rs) = omega (arith, sum_by-append (λ y. cond (block == y) 1 0) (blocks_in r) (flat_map blocks_in rs), named_in_all block rs, sum_by-cons (times_named block) r rs)
+
+abbrev live_times : ℕ → Counted → ℕ
+live_times block = λ c. cond (c.holders == 0) 0 (times block c)
+
+abbrev waiting_times : ℕ → Counted → ℕ
+waiting_times block = λ c. cond (c.holders == 0) (times block c) 0
+
+split_times : (block : ℕ) (cs : List Counted) → sum_by (times block) cs ≡ sum_by (live_times block) cs + sum_by (waiting_times block) cs
+split_times block [] = refl
+split_times block (c ∷ cs) =
+    omega (arith, sum_by-cons (times block) c cs, sum_by-cons (live_times block) c cs, sum_by-cons (waiting_times block) c cs, split_times block cs, either (c.holders == 0) (times block c))
+  where
+    either : (t : Bool) (n : ℕ) → n ≡ cond t 0 n + cond t n 0
+    either true n = omega arith
+    either false n = omega arith
+
+live_named : (block : ℕ) (x : Option Counted) → weight (live_times block) x ≡ weight (times_named block) (live_runs x)
+live_named block None = refl
+live_named block (Some c) = elim (c.holders == 0) as (λ t. cond t 0 (times block c) ≡ weight (times_named block) (cond t None (Some c.runs))) [ true ↦ refl | false ↦ refl ]
+
+waiting_named : (block : ℕ) (x : Option Counted) → weight (waiting_times block) x ≡ weight (times_named block) (waiting_runs x)
+waiting_named block None = refl
+waiting_named block (Some c) = elim (c.holders == 0) as (λ t. cond t (times block c) 0 ≡ weight (times_named block) (cond t (Some c.runs) None)) [ true ↦ refl | false ↦ refl ]
+
+-- a block stands in live places and in those that wait
+pub times_in : (m : CountedMap) (block : ℕ) → sum_by (times block) (fin.values m) ≡ count_by (λ y. block == y) (occupied_blocks (live_places_in m)) + count_by (λ y. block == y) (occupied_blocks (waiting_places_in m))
+times_in m block =
+    let live = same_sum nat_cmp nat_cmp_total nat_cmp-IsAntisymmetric (live_times block) (times_named block) m (live_places_in m) (λ q. live_named block (fin.get m q) ∙ ap (weight (times_named block)) (sym (get_live m q))) in
+    let waiting = same_sum nat_cmp nat_cmp_total nat_cmp-IsAntisymmetric (waiting_times block) (times_named block) m (waiting_places_in m) (λ q. waiting_named block (fin.get m q) ∙ ap (weight (times_named block)) (sym (get_waiting m q))) in
+    omega (arith, split_times block (fin.values m), live, waiting, named_in_all block (fin.values (live_places_in m)), named_in_all block (fin.values (waiting_places_in m)))
+
+-- ---- numbers that stand once each below a bound
+all_below : (n : ℕ) (xs : List ℕ) → ((x : ℕ) → count_by (λ y. x == y) xs ≤ cond (nat_lt x n) 1 0) → AllByRecursion (λ x. x < n) xs
+all_below n [] most = tt
+all_below n (x ∷ xs) most = (
+  below x n (omega (arith, most x, sum_by-cons (λ y. cond (x == y) 1 0) x xs, ap {B = ℕ} (λ b. cond b 1 0) (own_number x))),
+  all_below n xs (λ z. omega (arith, most z, sum_by-cons (λ y. cond (z == y) 1 0) x xs)),
+)
+
+-- ---- the list of places
+rising_below : {X : Type 0} (x : ℕ) (es : List (ℕ × X)) → T (below_all nat_cmp x es) → IsBelowAll x (map (λ e. e.0) es)
+rising_below x [] sorted = tt
+rising_below x (e ∷ es) sorted = (ranked x e.0 Less (sym (ordering_less (nat_cmp x e.0) (first _ _ sorted))), rising_below x es (second _ _ sorted))
+
+rising_keys : {X : Type 0} (es : List (ℕ × X)) → T (is_sorted nat_cmp es) → IsRising (map (λ e. e.0) es)
+rising_keys [] sorted = tt
+rising_keys (e ∷ es) sorted = (rising_below e.0 es (first _ _ sorted), rising_keys es (second _ _ sorted))
+
+abbrev pub to_place : ℕ × List Run → BirthRuns
+to_place = λ e. record { birth = e.0; runs = e.1 }
+
+listed_births : (es : List (ℕ × List Run)) → map (λ p. p.birth) (map to_place es) ≡ map (λ e. e.0) es
+listed_births [] = refl
+listed_births (e ∷ es) = ap (λ (xs : List ℕ). e.0 ∷ xs) (listed_births es)
+
+listed_blocks : (es : List (ℕ × List Run)) → blocks_of_places (map to_place es) ≡ flat_map blocks_in (map (λ e. e.1) es)
+listed_blocks [] = refl
+listed_blocks (e ∷ es) = ap (λ (xs : List ℕ). blocks_in e.1 ++ xs) (listed_blocks es)
+
+pub are_placed : (m : CountedMap) (live : ℕ) → IsCounted m live → ArePlaced (map to_place (entries (live_places_in m))) (2 ^ 32)
+are_placed m live counted =
+    let es = entries (live_places_in m) in
+    let xs = occupied_blocks (live_places_in m) in
+    let most : (block : ℕ) → count_by (λ y. block == y) xs ≤ cond (nat_lt block (2 ^ 32)) 1 0 = λ block. omega (arith, counted.once block, times_in m block) in
+    record {
+      births = subst IsRising (sym (listed_births es)) (rising_keys es (entries_sorted (live_places_in m)));
+      below = subst (All (λ block. block < 2 ^ 32)) (sym (listed_blocks es)) (All-from_recursion (λ block. block < 2 ^ 32) xs (all_below (2 ^ 32) xs most));
+      once = subst (AllPairs (λ x y. x ≢ y)) (sym (listed_blocks es)) (AllPairs-from_IsDistinct unsigned_Decides xs (distinct xs (λ x. omega (arith, counted.once x, times_in m x, at_most_one x (2 ^ 32)))));
+    }
+
+-- ---- the tree of live places
+pub find_in_tree : {X : Type 0} (es : List (ℕ × X)) (q : ℕ) → find nat_cmp q es ≡ lookup (λ k. is_eq (nat_cmp q k)) es
+find_in_tree [] q = refl
+find_in_tree (e ∷ es) q = ap (cond (is_eq (nat_cmp q e.0)) (Some e.1)) (find_in_tree es q)
+
+below_from_all : {X : Type 0} (x : ℕ) (es : List (ℕ × X)) → AllByRecursion (λ y. nat_cmp x y ≡ Less) (keys_of es) → T (below_all nat_cmp x es)
+below_from_all x [] all = tt
+below_from_all x (e ∷ es) all = both (is_lt (nat_cmp x e.0)) (below_all nat_cmp x es) (subst (λ r. T (is_lt r)) (sym all.0) tt) (below_from_all x es all.1)
+
+sorted_from_ordered : {X : Type 0} (es : List (ℕ × X)) → IsStrictlySortedBy nat_cmp (keys_of es) → T (is_sorted nat_cmp es)
+unfolding IsStrictlySortedBy
+sorted_from_ordered [] ordered = tt
+sorted_from_ordered (e ∷ es) ordered = both (below_all nat_cmp e.0 es) (is_sorted nat_cmp es) (below_from_all e.0 es ordered.0) (sorted_from_ordered es ordered.1)
+
+-- a tree that finds just the live places has their entries
+pub tree_entries : (m : CountedMap) (es : List (ℕ × List Run)) → IsStrictlySortedBy nat_cmp (keys_of es) → ((q : ℕ) → lookup (λ k. is_eq (nat_cmp q k)) es ≡ live_runs (fin.get m q)) → es ≡ entries (live_places_in m)
+tree_entries m es ordered finds =
+    same_entries nat_cmp nat_cmp_total nat_cmp-IsAntisymmetric es (entries (live_places_in m)) (sorted_from_ordered es ordered) (entries_sorted (live_places_in m))
+    (λ q. find_in_tree es q ∙ finds q ∙ sym (get_live m q) ∙ get-entries (live_places_in m) q)
+
+-- What a tree has once all keys but some were looked at: nothing but what is live, and all of that.
+pub record Finds (live found : ℕ → Option (List Run)) (rest : List ℕ) : Type 0 where
+  pub sound : (q : ℕ) (r : List Run) → found q ≡ Some r → live q ≡ Some r
+  pub all : (q : ℕ) → has_birth rest q ≡ false → found q ≡ live q
+
+pub finds_none : (live found : ℕ → Option (List Run)) (keys : List ℕ) → ((q : ℕ) → found q ≡ None) → ((q : ℕ) → has_birth keys q ≡ false → live q ≡ None) → Finds live found keys
+finds_none live found keys none absent = record {
+  sound = λ q r is. let bad : None ≡ Some r = sym (none q) ∙ is in absurd cc;
+  all = λ q out. none q ∙ sym (absent q out);
+}
+
+pub finds_more : (live before after : ℕ → Option (List Run)) (x : ℕ) (left rest : List ℕ) → left ≡ x ∷ rest → ((q : ℕ) → after q ≡ cond (q == x) (or_else (live x) (before q)) (before q)) → Finds live before left → Finds live after rest
+finds_more live before after x left rest is step finds = record {
+  sound = λ q r has. elim (q == x) as (λ t. (q == x) ≡ t → cond t (or_else (live x) (before q)) (before q) ≡ Some r → live q ≡ Some r) [
+    | true ↦ λ t has. ap live (same_number q x t) ∙ own q r (same_number q x t) (live x) refl has
+    | false ↦ λ _ has. finds.sound q r has
+  ] refl (sym (step q) ∙ has);
+  all = λ q out. step q ∙ elim (q == x) as (λ t. (q == x) ≡ t → cond t (or_else (live x) (before q)) (before q) ≡ live q) [
+    | true ↦ λ t. now q (same_number q x t) (live x) refl (before q) refl ∙ ap live (sym (same_number q x t))
+    | false ↦ λ t. finds.all q (ap (λ xs. has_birth xs q) is ∙ ap (λ b. b || has_birth rest q) t ∙ out)
+  ] refl;
+}
+  where
+    own : (q : ℕ) (r : List Run) → q ≡ x → (o : Option (List Run)) → live x ≡ o → or_else o (before q) ≡ Some r → live x ≡ Some r
+    own q r same None at has = ap live (sym same) ∙ finds.sound q r has
+    own q r same (Some s) at has = at ∙ has
+
+    now : (q : ℕ) → q ≡ x → (o : Option (List Run)) → live x ≡ o → (b : Option (List Run)) → before q ≡ b → or_else o b ≡ live x
+    now q same (Some s) at b had = sym at
+    now q same None at None had = sym at
+    now q same None at (Some r) had = let bad : None ≡ Some r = sym at ∙ ap live (sym same) ∙ finds.sound q r had in absurd cc
+
+pub no_entry : {X : Type 0} (o : Option X) → is_some o ≡ false → o ≡ None
+no_entry None is = refl
+no_entry (Some x) is = absurd cc

@@ -1,0 +1,7 @@
+-- Words that serve the ledger's own clauses and proofs.
+pub mod Bounds
+pub mod Codes
+pub mod Counted
+pub mod Counts
+pub mod Examples
+pub mod Tallies
