@@ -10,4 +10,3 @@ pub mod PutLemmas
 pub mod ReturnLemmas
 pub mod SameLemmas
 pub mod TakeLemmas
-pub mod TestLemmas

@@ -5,6 +5,3 @@ mod free_runs;
 mod maximal_runs;
 
 pub use free_runs::FreeRuns;
-
-#[cfg(test)]
-mod tests;

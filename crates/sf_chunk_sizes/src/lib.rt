@@ -4,6 +4,3 @@
 mod contents;
 
 pub use contents::{blocks, cut};
-
-#[cfg(test)]
-mod tests;

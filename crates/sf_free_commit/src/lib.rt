@@ -6,6 +6,3 @@ mod queue;
 
 pub use committed::Committed;
 pub use queue::GREATEST_BLOCK;
-
-#[cfg(test)]
-mod tests;

@@ -1,12 +1,11 @@
-mod MapSumLemmas
-mod HashMapLemmas
-mod BirthMapLemmas
-mod HolderMapLemmas
-mod CountLemmas
-mod ExchangeLemmas
-mod LedgerLemmas
-mod ListingLemmas
-mod ShiftLemmas
+pub mod MapSumLemmas
+pub mod HashMapLemmas
+pub mod BirthMapLemmas
+pub mod HolderMapLemmas
+pub mod CountLemmas
+pub mod ExchangeLemmas
+pub mod LedgerLemmas
+pub mod ListingLemmas
+pub mod ShiftLemmas
 pub mod PlannedShiftLemmas
-mod TallyLemmas
-mod ExampleLemmas
+pub mod TallyLemmas

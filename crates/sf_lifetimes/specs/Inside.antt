@@ -3,5 +3,4 @@ pub mod Bounds
 pub mod Codes
 pub mod Counted
 pub mod Counts
-pub mod Examples
 pub mod Tallies

@@ -8,6 +8,3 @@ mod place_map;
 mod tally;
 
 pub use ledger::{Ledger, UnheldPlaces};
-
-#[cfg(test)]
-mod tests;

@@ -4,6 +4,3 @@
 mod shifts;
 
 pub use shifts::{MOST_BLOCKS, Shift, ShiftList, plan};
-
-#[cfg(test)]
-mod tests;

@@ -5,8 +5,8 @@ use Rattle.sf_types.specs.Space.BlockRuns.{blocks_in}
 use Rattle.sf_block_space.specs.Free.{AreApart, AreOut, has_block}
 use Rattle.sf_types.proofs.BoolLemmas.{and-turned}
 use Rattle.sf_block_space.proofs.OutLemmas.{more-out}
-use Rattle.sf_block_space.proofs.TestLemmas.{granted-apart}
-use Rattle.sf_block_space.proofs.tests.set_aside.Goals as goal
+use Rattle.sf_tests.proofs.BlockSpaceLemmas.{granted-apart}
+use Rattle.sf_tests.proofs.block_space.set_aside.Goals as goal
 
 pub returns-clause-into : goal.returns-clause-into
 returns-clause-into c =

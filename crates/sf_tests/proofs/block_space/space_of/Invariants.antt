@@ -1,6 +1,6 @@
 use Rattle.sf_types.specs.Space.BlockRuns.{blocks_in}
 use Rattle.sf_block_space.specs.Free.{AreApart, AreOut}
-use Rattle.sf_block_space.proofs.tests.space_of.Given as goal
+use Rattle.sf_tests.proofs.block_space.space_of.Given as goal
 
 -- the blocks of both lists are out, and the lists have no block in common
 abbrev pub invariant-loop-n : goal.invariant-loop-n

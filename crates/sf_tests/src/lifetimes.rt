@@ -1,8 +1,8 @@
 ghost use Rattle.std.specs.Prelude.{◌≡◌, [], ◌∷◌, IfOk, OnOk, IsSome};
 ghost use Rattle.std.specs.FinMap as fin;
-ghost use Rattle.sf_lifetimes.specs.Inside.Examples as example;
+ghost use Rattle.sf_tests.specs.Ledgers as example;
 
-use crate::ledger::{Ledger, UnheldPlaces};
+use sf_lifetimes::{Ledger, UnheldPlaces};
 use sf_shrink::plan;
 use sf_types::{
     BirthRunsList, Births, ContentRuns, Holder, HolderList, Mem, Name, OutOfMemory, Run,

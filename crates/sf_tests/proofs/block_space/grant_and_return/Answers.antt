@@ -1,7 +1,7 @@
 use Rattle.std.proofs.Common.{◌∙◌, ap, sym, subst, rules}
 use Rattle.sf_block_space.specs.Free.{FreeSpace, Gains}
-use Rattle.sf_block_space.proofs.TestLemmas.{returned-same}
-use Rattle.sf_block_space.proofs.tests.grant_and_return.Goals as goal
+use Rattle.sf_tests.proofs.BlockSpaceLemmas.{returned-same}
+use Rattle.sf_tests.proofs.block_space.grant_and_return.Goals as goal
 
 pub returns : goal.returns
 returns c =

@@ -2,7 +2,7 @@ ghost use Rattle.std.specs.Prelude.{◌≡◌, ◌≤◌, length, OnOk};
 ghost use Rattle.sf_types.specs.Space.BlockRuns.{blocks_in};
 ghost use Rattle.sf_block_space.specs.Free.{AreApart, AreFreeRuns, AreOut};
 
-use crate::free_runs::FreeRuns;
+use sf_block_space::FreeRuns;
 use sf_types::{Mem, OutOfMemory, Runs};
 use std::alloc::Global;
 use std::process::Abort;

@@ -6,7 +6,7 @@ use Rattle.std.proofs.lemmas.List.FromFn.{length-range_with_len}
 use Rattle.sf_types.specs.declared.run.Run.{Run}
 use Rattle.sf_types.specs.Space.BlockRuns.{blocks_in, blocks_in_run}
 use Rattle.sf_types.proofs.RunLemmas.{blocks-within, push-blocks}
-use Rattle.sf_free_commit.proofs.tests.park_run.Goals as goal
+use Rattle.sf_tests.proofs.free_commit.park_run.Goals as goal
 
 pub park-requires-clause-numbers : goal.park-requires-clause-numbers
 park-requires-clause-numbers c =

@@ -1,6 +1,6 @@
 use Rattle.std.proofs.Common.{◌∙◌, ap}
-use Rattle.sf_lifetimes.proofs.ExampleLemmas.{first_new, first_free, one_placed, second_new, second_free, two_placed}
-use Rattle.sf_lifetimes.proofs.tests.two_places.Goals as goal
+use Rattle.sf_tests.proofs.LedgerLemmas.{first_new, first_free, one_placed, second_new, second_free, two_placed}
+use Rattle.sf_tests.proofs.lifetimes.two_places.Goals as goal
 
 pub place-requires-clause-birth : goal.place-requires-clause-birth
 place-requires-clause-birth c = first_free c.make_room.new.self.held.places (ap (λ v. v.places) c.make_room.ensures.held ∙ c.in_ok-ledger.ensures.places)

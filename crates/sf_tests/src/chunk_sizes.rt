@@ -1,4 +1,4 @@
-use crate::contents::{blocks, cut};
+use sf_chunk_sizes::{blocks, cut};
 use std::test::*;
 
 // Lengths of runs, the lengths of their contents, and the blocks of all of them.

@@ -2,7 +2,7 @@ ghost use Rattle.std.specs.Prelude.{◌≡◌, [], ◌∷◌, IfOk};
 ghost use Rattle.sf_shrink.specs.declared.shifts.TheConstants.{MOST_BLOCKS};
 ghost use Rattle.sf_shrink.specs.Plans.{ArePlaced};
 
-use crate::shifts::{ShiftList, plan};
+use sf_shrink::{ShiftList, plan};
 use sf_types::{BirthRuns, BirthRunsList, ContentRuns, Mem, Run};
 use std::alloc::Global;
 use std::test::*;

@@ -1,5 +1,5 @@
 use Rattle.std.proofs.Common.{◌≡◌, ◌++◌, take}
-use Rattle.sf_block_space.proofs.tests.set_aside.Given as goal
+use Rattle.sf_tests.proofs.block_space.set_aside.Given as goal
 
 -- the runs before this one were added
 abbrev pub invariant-loop-run : goal.invariant-loop-run

@@ -19,7 +19,7 @@ use Rattle.sf_types.specs.Space.BlockRuns.{blocks_in}
 use Rattle.sf_shrink.specs.declared.shifts.TheConstants.{MOST_BLOCKS}
 use Rattle.sf_shrink.specs.Plans.{ArePlaced}
 use Rattle.sf_lifetimes.specs.Ledgers.{LedgerView, Places, IsNewPlace, has_birth, occupied_blocks, held_by, is_live, live_places, waiting_places, listed_places, with_holding, with_births, number_of_holders}
-use Rattle.sf_lifetimes.specs.Inside.Examples.{single_block, two_places, HoldsBoth}
+use Rattle.sf_tests.specs.Ledgers.{single_block, two_places, HoldsBoth}
 use Rattle.sf_lifetimes.proofs.MapSumLemmas.{no_values, no_entries}
 use Rattle.sf_lifetimes.proofs.LedgerLemmas.{holds, number_changes}
 use Rattle.sf_lifetimes.proofs.ListingLemmas.{to_place}

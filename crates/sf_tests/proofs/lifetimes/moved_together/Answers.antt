@@ -1,9 +1,9 @@
 use Rattle.std.proofs.Common.{arith, subst}
 use Rattle.sf_shrink.specs.declared.shifts.TheConstants.{MOST_BLOCKS}
 use Rattle.sf_shrink.specs.Plans.{IsSafeWithoutGap}
-use Rattle.sf_lifetimes.proofs.ExampleLemmas.{both_listed, none_waits}
+use Rattle.sf_tests.proofs.LedgerLemmas.{both_listed, none_waits}
 use Rattle.sf_lifetimes.proofs.PlannedShiftLemmas.{planned_are_safe}
-use Rattle.sf_lifetimes.proofs.tests.moved_together.Goals as goal
+use Rattle.sf_tests.proofs.lifetimes.moved_together.Goals as goal
 
 pub plan-requires : goal.plan-requires
 plan-requires c = both_listed c.hold_both.new.ledger.held _ c.in_ok-before.before c.in_ok-hold_both.ensures c.in_ok-before.ensures.places

@@ -1,5 +1,5 @@
-use Rattle.sf_lifetimes.proofs.ExampleLemmas.{both_placed}
-use Rattle.sf_lifetimes.proofs.tests.by_counts.Goals as goal
+use Rattle.sf_tests.proofs.LedgerLemmas.{both_placed}
+use Rattle.sf_tests.proofs.lifetimes.by_counts.Goals as goal
 
 pub hold_one-requires : goal.hold_one-requires
 hold_one-requires c = (both_placed c.hold_both.new.ledger.held.places c.in_ok-hold_both.ensures.places).0

@@ -2,8 +2,8 @@ use Rattle.std.proofs.Common.{◌≡◌, [], ◌∷◌, sym, subst, rules}
 use Rattle.std.specs.Prelude.{All, IsSome}
 use Rattle.std.specs.FinMap as fin
 use Rattle.std.proofs.lemmas.List.Elements.{All-from_recursion}
-use Rattle.sf_lifetimes.proofs.ExampleLemmas.{both_placed, both_held}
-use Rattle.sf_lifetimes.proofs.tests.hold_both.Goals as goal
+use Rattle.sf_tests.proofs.LedgerLemmas.{both_placed, both_held}
+use Rattle.sf_tests.proofs.lifetimes.hold_both.Goals as goal
 
 pub returns : goal.returns
 returns c =

@@ -1,0 +1,2 @@
+pub mod BlockSpaceLemmas
+pub mod LedgerLemmas
