@@ -26,9 +26,6 @@ use Rattle.sf_lifetimes.specs.Ledgers.{has_birth}
 use Rattle.sf_lifetimes.specs.Inside.Counts.{CountedMap, IsCounted, IsFree, without_holder, IsChangedAt, AreChanged, with_one_fewer, live_in, times, holders_in, runs_in, last_births, lone_births, runs_of_births}
 use Rattle.sf_lifetimes.proofs.MapSumLemmas.{weight, weight-le, sum-insert, sum-remove, no_values}
 
-pub not_some : (c : Counted) → None ≡ Some c → ⊥
-not_some c is = absurd cc
-
 pub none_counted : IsCounted empty 0
 none_counted = record {
   once = λ block. omega (arith, ap (sum_by (times block)) (no_values nat_cmp));
@@ -161,10 +158,6 @@ taken_counted m live b c one is counted =
         live_is = omega (arith, left live_in, ap (weight live_in) is, counted.live_is, now);
       },
     )
-
--- free runs have no more than 2^32 blocks
-pub few_blocks : (m : CountedMap) (runs : List Run) → IsFree m runs → length (blocks_in runs) ≤ 2 ^ 32
-few_blocks m runs free = few_numbers (blocks_in runs) (2 ^ 32) (λ x. (free x).0)
 
 pub both_fit : (t s most : ℕ) → t ≤ most → (1 ≤ t → s ≡ 0) → s ≤ most → s + t ≤ most
 both_fit zero s most le none fits = omega (arith, fits)

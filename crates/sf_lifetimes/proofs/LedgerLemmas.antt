@@ -249,15 +249,6 @@ live_sum_is m holdings counted =
 pub place_by_counts : (m : CountedMap) (holdings : Holdings) (b : ℕ) → IsCountedBy m holdings → live_runs (fin.get m b) ≡ place_of (record { places = places_in m; holdings = holdings }) b
 place_by_counts m holdings b counted = sym (get_live m b) ∙ ap (λ (places : Places). fin.get places b) (live_is m holdings counted)
 
-pub live_where_held : (x : Option Counted) → is_some (live_runs x) ≡ not (holders_in x == 0)
-live_where_held None = refl
-live_where_held (Some c) = elim (c.holders == 0) as (λ t. is_some (cond t None (Some c.runs)) ≡ not t) [ true ↦ refl | false ↦ refl ]
-
--- ---- a new place
-holders_insert : (x : Bool) (c : Counted) (y : Option Counted) → c.holders ≡ 0 → holders_in y ≡ 0 → holders_in (cond x (Some c) y) ≡ 0
-holders_insert true c y own before = own
-holders_insert false c y own before = before
-
 pub counted_placed : (m : CountedMap) (holdings : Holdings) (b : ℕ) (runs : List Run) → fin.get m b ≡ None → IsCountedBy m holdings → IsCountedBy (fin.insert m b (without_holder runs)) holdings
 counted_placed m holdings b runs none counted q =
     ap holders_in (get-insert nat_cmp_total m b (without_holder runs) q)

@@ -21,7 +21,7 @@ pub use memory_sink::MemSink;
 pub use memory_source::MemSource;
 pub use sink::Sink;
 pub use source::Source;
-pub use standard::StdStream;
+pub use standard::{StdSink, StdSource, StdStream};
 pub use sure::{SureSink, SureSource};
 
 #[cfg(test)]

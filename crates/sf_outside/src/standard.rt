@@ -34,6 +34,12 @@ pub struct StdStream<T> {
     faults: FaultCount,
 }
 
+/// A reader of std as a source.
+pub type StdSource<R> = StdStream<R>;
+
+/// A writer of std as a sink.
+pub type StdSink<W> = StdStream<W>;
+
 impl<T> Model for StdStream<T> {
     ghost use Rattle.sf_outside.specs.Standard.{StreamState};
 

@@ -1,14 +1,13 @@
 -- Session 1 goes on calling.
-use Rattle.std.proofs.Common.{◌≡◌, ℕ, zero, suc, ◌≤◌, Bool, true, false, ◌&&◌, cond, List, [], ◌∷◌, ◌+◌, length, replicate, Option, Some, None, refl, sym, subst, arith}
+use Rattle.std.proofs.Common.{◌≡◌, ℕ, suc, ◌≤◌, Bool, true, false, ◌&&◌, cond, List, [], ◌∷◌, ◌+◌, length, Option, Some, None, refl, sym, subst, arith}
 use Rattle.std.specs.Prelude.{nat_le, slice_get, slice_set, unwrap_or}
 use Rattle.std.proofs.lemmas.Bool.Decides.{nat_tests}
 use Rattle.sf_types.specs.declared.call.Call.{Call}
 use Rattle.sf_types.specs.declared.call.Call.TheVariants as call
 use Rattle.sf_types.specs.declared.history.Kind.TheVariants as kind
-use Rattle.sf_types.specs.declared.options.Options.{Options}
 use Rattle.sf_types.specs.declared.reply.Fault.{Fault}
 use Rattle.sf_types.specs.declared.reply.Reply.{Reply}
-use Rattle.sf_types.specs.Table.Parts.{Session, Table, new_session, opening_table}
+use Rattle.sf_types.specs.Table.Parts.{Session, Table, new_session}
 use Rattle.sf_types.specs.Table.Sessions.{session_of, with_session, row_value, holds_lock, with_lock}
 use Rattle.sf_types.specs.declared.reply.Reply.TheVariants as reply
 use Rattle.sf_types.specs.Values.Marks.{empty_value, size_of}
@@ -19,32 +18,12 @@ use Rattle.sf_types.specs.Calls.WritingCalls.{writing_refusal, old_value, result
 use Rattle.sf_types.specs.Calls.TransactionEnds.{after_commit, with_commit}
 use Rattle.sf_types.specs.Calls.Refusals.{refusal_or}
 use Rattle.sf_types.specs.Calls.Steps.{step}
-use Rattle.sf_types.specs.Orders.Histories.{IsLegalWhere}
 use Rattle.sf_script.specs.Provisional.Calls.{can_stand}
 use Rattle.sf_program.specs.Live.{IsLive}
 use Rattle.sf_program.specs.Plays.{done_by}
 
--- A call of session 1 is legal.
-pub live_legal : (t : Table) (c : Call) → IsLive t → IsLegalWhere false t 1 kind.Call c
-live_legal t c live = record { session = live.session; goes_on = live.goes_on; standing = rw live.free refl }
-
-some_session : (n : ℕ) → 1 ≤ n → (x : Session) → slice_get (replicate n x) 0 ≡ Some x
-some_session zero le x = absurd (omega arith)
-some_session (suc n) le x = refl
-
 some_le : (n : ℕ) → (nat_le 1 1 && nat_le 1 (suc n)) ≡ true
 some_le n = grind (arith, nat_tests)
-
-some_length : (n : ℕ) → 1 ≤ n → (x : Session) → (nat_le 1 1 && nat_le 1 (length (replicate n x))) ≡ true
-some_length zero le x = absurd (omega arith)
-some_length (suc n) le x = some_le (length (replicate n x))
-
-pub live_opening : (options : Options) (sessions : ℕ) → 1 ≤ sessions → IsLive (opening_table options sessions)
-live_opening options sessions le = record {
-  session = some_length sessions le new_session;
-  goes_on = rw (some_session sessions le new_session) refl;
-  free = rw (some_session sessions le new_session) refl;
-}
 
 -- What is asked of the list of sessions alone.
 pub record AreLive (sessions : List Session) : Type 0 where

@@ -1,5 +1,5 @@
 -- The play of session 1's calls, one after the other.
-use Rattle.std.proofs.Common.{◌≡◌, ℕ, zero, suc, ◌+◌, ◌<◌, Bool, true, false, ◌&&◌, List, [], ◌∷◌, ◌++◌, map, length, get_or, drop, replicate, refl, sym, ap, ◌∙◌, append_assoc, arith}
+use Rattle.std.proofs.Common.{◌≡◌, ℕ, zero, suc, ◌+◌, ◌<◌, true, ◌&&◌, List, [], ◌∷◌, ◌++◌, map, length, get_or, drop, replicate, refl, sym, ap, ◌∙◌, append_assoc, arith}
 use Rattle.std.specs.List.{list_all}
 use Rattle.std.proofs.lemmas.List.{drop_more}
 use Rattle.sf_types.proofs.BoolLemmas.{both_first, both_second}
@@ -12,7 +12,6 @@ use Rattle.sf_types.specs.declared.reply.Reply.{Reply}
 use Rattle.sf_types.specs.Table.Parts.{Table}
 use Rattle.sf_types.specs.Orders.Histories.{table_after, replies_from, replies_to}
 use Rattle.sf_script.specs.Provisional.Calls.{can_stand}
-use Rattle.sf_model.specs.Provisional.{has_step}
 use Rattle.sf_program.specs.Plays.{entry_of, done_by}
 
 -- The replies to some calls and the End, and the table after them.
@@ -47,33 +46,3 @@ order-is (c ∷ cs) =
     let token : Token = record { session = 1; kind = kind.Call } in
     let count : suc (length cs) + 1 ≡ suc (length cs + 1) = omega arith in
     ap (λ n. replicate n token) count ∙ ap (λ (ts : List Token). token ∷ ts) (order-is cs)
-
--- a call that may stand in a script has a step
-pub has_step_of : (c : Call) → can_stand c ≡ true → has_step c ≡ true
-has_step_of (call.Insert row) stands = refl
-has_step_of (call.Lock to row) stands = refl
-has_step_of (call.WriteAppend at bytes) stands = refl
-has_step_of (call.Length at) stands = refl
-has_step_of (call.Read at amount offset) stands = refl
-has_step_of call.Commit stands = refl
-has_step_of (call.Delete row) stands = absurd cc
-has_step_of (call.Select to row) stands = absurd cc
-has_step_of (call.SelectAsOf to row n) stands = absurd cc
-has_step_of (call.Assign to from) stands = absurd cc
-has_step_of (call.Free at) stands = absurd cc
-has_step_of (call.Instr at pattern offset) stands = absurd cc
-has_step_of (call.Compare left right amount left_offset right_offset) stands = absurd cc
-has_step_of (call.Write at offset bytes) stands = absurd cc
-has_step_of (call.Append at from) stands = absurd cc
-has_step_of (call.Copy at from amount to_offset from_offset) stands = absurd cc
-has_step_of (call.Erase at amount offset) stands = absurd cc
-has_step_of (call.Trim at new_size) stands = absurd cc
-has_step_of (call.FragInsert at offset bytes) stands = absurd cc
-has_step_of (call.FragDelete at amount offset) stands = absurd cc
-has_step_of (call.FragMove at amount from_offset to_offset) stands = absurd cc
-has_step_of (call.FragReplace at old_amount offset bytes) stands = absurd cc
-has_step_of (call.SetOptions at share) stands = absurd cc
-has_step_of (call.Savepoint name) stands = absurd cc
-has_step_of (call.RollbackTo name) stands = absurd cc
-has_step_of call.Rollback stands = absurd cc
-has_step_of call.End stands = absurd cc

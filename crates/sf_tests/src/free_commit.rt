@@ -1,8 +1,7 @@
 ghost use Rattle.std.specs.Prelude.{◌≡◌, ◌+◌, ◌≤◌, ◌<◌, ◌^◌, length, OnOk};
 ghost use Rattle.sf_types.specs.Space.BlockRuns.{blocks_in};
 
-use sf_free_commit::Committed;
-use sf_free_commit::GREATEST_BLOCK;
+use sf_free_commit::{Committed, GREATEST_BLOCK};
 use sf_types::{Mem, Run, Runs};
 use std::alloc::Global;
 use std::test::*;

@@ -13,24 +13,6 @@ middle-last false true false = refl
 middle-last false false true = refl
 middle-last false false false = refl
 
--- without the middle one, which excludes both others
-pub without-middle : (a b c : Bool) → (b ≡ true → (a || c) ≡ false) → (a || c) ≡ ((a || (b || c)) && not b)
-without-middle true true c apart = apart refl
-without-middle true false c apart = refl
-without-middle false true c apart = apart refl
-without-middle false false true apart = refl
-without-middle false false false apart = refl
-
-pub and-true : (a : Bool) → a ≡ (a && true)
-and-true true = refl
-and-true false = refl
-
--- neither one nor the other
-pub and-neither : (a b c : Bool) → ((a && not b) && not c) ≡ (a && not (b || c))
-and-neither true true c = refl
-and-neither true false c = refl
-and-neither false b c = refl
-
 pub or-false : (a : Bool) → a ≡ (a || false)
 or-false true = refl
 or-false false = refl
@@ -42,26 +24,6 @@ or-regroup false b c = refl
 pub or-true : (a b : Bool) → b ≡ true → (a || b) ≡ true
 or-true true b is = refl
 or-true false b is = is
-
-pub or-middle : (a b c : Bool) → b ≡ true → (a || (b || c)) ≡ true
-or-middle a b c is = rw is (all-true a)
-  where
-    all-true : (x : Bool) → (x || true) ≡ true
-    all-true true = refl
-    all-true false = refl
-
--- what holds without another excludes it
-pub and-first : (a b : Bool) → (a && not b) ≡ true → a ≡ true
-and-first true b is = refl
-and-first false b is = is
-
-pub and-second : (a b : Bool) → (a && not b) ≡ true → b ≡ false
-and-second a true is = absurd (no a is)
-  where
-    no : (x : Bool) → (x && false) ≡ true → ⊥
-    no true bad = cc
-    no false bad = cc
-and-second a false is = refl
 
 pub and-turned : (a b : Bool) → (a && b) ≡ false → (b && a) ≡ false
 and-turned true true none = none
