@@ -11,7 +11,7 @@ use Rattle.sf_types.specs.Space.Cuts.{Cut, stored_bytes_from, stored_bytes}
 use Rattle.sf_types.specs.Space.Use.{content_of}
 use Rattle.sf_types.specs.Space.Promises.{is_shared_as, found_birth, is_found}
 use Rattle.sf_types.specs.Space.Publications.{content_of_cut, birth_for, contents_with, reached_with, births_for, contents_after}
-use Rattle.sf_laws.specs.TrueMarks.{IsGivenOut, bytes_of, HasTrueMark}
+use Rattle.sf_laws.specs.TrueMarks.{IsGivenOut, bytes_of_birth, HasTrueMark}
 use Rattle.sf_laws.proofs.EachLemmas.{each_weaker, each-append, each_left, each_found, each_itself, each_contained}
 use Rattle.sf_laws.proofs.SettleLemmas.{Paired}
 use Rattle.sf_laws.proofs.PositionLemmas.{at_drop}
@@ -57,7 +57,7 @@ given_kept before after b on given = record { low = given.low; high = rw on.part
 pub content_kept : (before after : List Content) (b : ℕ) → GoesOn before after → IsGivenOut before b → content_of after b ≡ content_of before b
 content_kept before after b on given = rw on.parts (get-append before on.more (b - 1) (omega (arith, given.low, given.high)))
 
-pub bytes_kept : (before after : List Content) (b : ℕ) → GoesOn before after → IsGivenOut before b → bytes_of after b ≡ bytes_of before b
+pub bytes_kept : (before after : List Content) (b : ℕ) → GoesOn before after → IsGivenOut before b → bytes_of_birth after b ≡ bytes_of_birth before b
 bytes_kept before after b on given = ap (λ (o : Option Content). option_map_or (λ x. x.bytes) o []) (content_kept before after b on given)
 
 -- What was found for a cut: a shared birth with its bytes.
@@ -91,7 +91,7 @@ found_at contents reached cut b is =
 -- A birth given to a cut has its bytes, and is among those where a further cut is looked for.
 pub record IsGivenTo (contents : List Content) (reached : List ℕ) (cut : Cut) (b : ℕ) : Type 0 where
   pub given_out : IsGivenOut contents b
-  pub bytes : bytes_of contents b ≡ cut.bytes
+  pub bytes : bytes_of_birth contents b ≡ cut.bytes
   pub within : Contains reached b
 
 given_where : (contents : List Content) (reached : List ℕ) (cut : Cut) (o : Option ℕ) → found_birth contents reached cut ≡ o → Each (IsGivenOut contents) reached
@@ -160,11 +160,11 @@ given_after contents reached [] given = given
 given_after contents reached (cut ∷ rest) given = given_after (contents_with contents reached cut) (reached_with contents reached cut) rest (given_with contents reached cut given)
 
 -- the bytes that a birth stores are true where the birth has them
-stored_true_from : (contents : List Content) (b i : ℕ) (all bytes : List ℕ) → IsGivenOut contents b → bytes_of contents b ≡ all → drop i all ≡ bytes → Each (HasTrueMark contents) (stored_bytes_from b i bytes)
+stored_true_from : (contents : List Content) (b i : ℕ) (all bytes : List ℕ) → IsGivenOut contents b → bytes_of_birth contents b ≡ all → drop i all ≡ bytes → Each (HasTrueMark contents) (stored_bytes_from b i bytes)
 stored_true_from contents b i all [] given is at = tt
 stored_true_from contents b i all (x ∷ bytes) given is at =
     let parts = at_drop all i x bytes at in
     (record { given_out = given; stands = ap (λ (xs : List ℕ). slice_get xs i) is ∙ parts.0 }, stored_true_from contents b (i + 1) all bytes given is parts.1)
 
-pub stored_true : (contents : List Content) (b : ℕ) (bytes : List ℕ) → IsGivenOut contents b → bytes_of contents b ≡ bytes → Each (HasTrueMark contents) (stored_bytes b bytes)
+pub stored_true : (contents : List Content) (b : ℕ) (bytes : List ℕ) → IsGivenOut contents b → bytes_of_birth contents b ≡ bytes → Each (HasTrueMark contents) (stored_bytes b bytes)
 stored_true contents b bytes given is = stored_true_from contents b 0 bytes bytes given is refl

@@ -18,8 +18,8 @@ abbrev pub promises_in : ℕ → Call → Entry
 promises_in s c = record { token = record { session = s; kind = kind.Promise }; call = c }
 
 -- The same of session 1.
-abbrev pub ends : Call → Entry
-ends c = ends_in 1 c
+abbrev pub ending : Call → Entry
+ending c = ends_in 1 c
 
 -- Its promise.
 abbrev pub promises : Call → Entry
@@ -27,19 +27,19 @@ promises c = promises_in 1 c
 
 -- A due call of session 1 with its promise and its end.
 abbrev pub flushes : Call → List Entry
-flushes c = promises c ∷ ends c ∷ []
+flushes c = promises c ∷ ending c ∷ []
 
 -- Calls of session 1 of which none is due.
 abbrev pub calls : List Call → List Entry
-calls cs = map ends cs
+calls cs = map ending cs
 
 -- The table at the end of a history of session 1, and the replies.
-abbrev pub end_of : Options → List Entry → Table
-end_of options history = history_table options 1 history
+abbrev pub table_at_end : Options → List Entry → Table
+table_at_end options history = history_table options 1 history
 
 -- The replies to its calls.
-abbrev pub replies_of : Options → List Entry → List Reply
-replies_of options history = history_replies options 1 history 1
+abbrev pub replies_in : Options → List Entry → List Reply
+replies_in options history = history_replies options 1 history 1
 
 -- Each of its entries is legal where it stands.
 abbrev pub IsLegalAlone : Options → List Entry → Type 0

@@ -12,13 +12,13 @@ pub record IsGivenOut (contents : List Content) (birth : ℕ) : Type 0 where
   pub high : birth ≤ length contents
 
 -- The bytes of a birth's content.
-abbrev pub bytes_of : List Content → ℕ → List ℕ
-bytes_of contents birth = option_map_or (λ x. x.bytes) (content_of contents birth) []
+abbrev pub bytes_of_birth : List Content → ℕ → List ℕ
+bytes_of_birth contents birth = option_map_or (λ x. x.bytes) (content_of contents birth) []
 
 -- A stored byte stands at an index inside the content of its birth, which was given out.
 pub record IsStoredAt (contents : List Content) (birth index byte : ℕ) : Type 0 where
   pub given_out : IsGivenOut contents birth
-  pub stands : slice_get (bytes_of contents birth) index ≡ Some byte
+  pub stands : slice_get (bytes_of_birth contents birth) index ≡ Some byte
 
 -- The mark of a byte is true where the byte is 0 and is marked so, or is fresh, or is stored as its mark says.
 abbrev pub IsTrueMark : List Content → ℕ → Mark → Type 0

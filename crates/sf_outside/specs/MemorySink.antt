@@ -14,6 +14,6 @@ abbrev pub write_amount : SinkState → List ℕ → ℕ
 write_amount s piece = min s.piece (length piece)
 
 -- after a write of a piece: it took the first n bytes, and was counted
-abbrev pub after_write : {E : Type 0} → SinkState → List ℕ → Result ℕ E → SinkState
-after_write s piece (Ok n) = record s { kept = kept_with s.kept (take n piece); counts = after_success s.counts }
-after_write s piece (Err e) = record s { counts = after_fault s.counts }
+abbrev pub sink_after : {E : Type 0} → SinkState → List ℕ → Result ℕ E → SinkState
+sink_after s piece (Ok n) = record s { kept = kept_with s.kept (take n piece); counts = after_success s.counts }
+sink_after s piece (Err e) = record s { counts = after_fault s.counts }

@@ -14,6 +14,6 @@ abbrev pub read_amount : SourceState → List ℕ → ℕ
 read_amount s into = min s.piece (min (length into) (length s.left))
 
 -- after a read: it took the bytes that it gave, and was counted
-abbrev pub after_read : {E : Type 0} → SourceState → Result ℕ E → SourceState
-after_read s (Ok n) = record s { left = drop n s.left; counts = after_success s.counts }
-after_read s (Err e) = record s { counts = after_fault s.counts }
+abbrev pub source_after : {E : Type 0} → SourceState → Result ℕ E → SourceState
+source_after s (Ok n) = record s { left = drop n s.left; counts = after_success s.counts }
+source_after s (Err e) = record s { counts = after_fault s.counts }

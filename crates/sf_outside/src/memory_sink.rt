@@ -3,7 +3,7 @@ ghost use Rattle.std.specs.Prelude.{◌≡◌, ◌≤◌, ◌↔◌, IsErr, is_e
 ghost use Rattle.sf_outside.specs.Causes.{HasCause};
 ghost use Rattle.sf_outside.specs.CallCounts.{no_calls, NextFails};
 ghost use Rattle.sf_outside.specs.Kept.{nothing_kept, told_bytes};
-ghost use Rattle.sf_outside.specs.MemorySink.{write_amount, after_write};
+ghost use Rattle.sf_outside.specs.MemorySink.{write_amount, sink_after};
 ghost use Rattle.sf_outside.specs.Sink.{TakesSome, TakesFirst};
 
 use crate::call_counts::CallCounts;
@@ -80,7 +80,7 @@ impl Sink for MemSink {
         // What this one does besides.
         ensures fails { IsErr result ↔ NextFails self.old.counts }
         ensures amount { IfOk result (λ n. n ≡ write_amount self.old piece.now) }
-        ensures after { self.new ≡ after_write self.old piece.now result }
+        ensures after { self.new ≡ sink_after self.old piece.now result }
     {
         if self.counts.next_fails() {
             return Err(Failed);

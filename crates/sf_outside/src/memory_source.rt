@@ -2,7 +2,7 @@
 ghost use Rattle.std.specs.Prelude.{◌≡◌, ◌≤◌, ◌↔◌, Some, IsErr, is_err, IfOk};
 ghost use Rattle.sf_outside.specs.Causes.{HasCause};
 ghost use Rattle.sf_outside.specs.CallCounts.{no_calls, NextFails};
-ghost use Rattle.sf_outside.specs.MemorySource.{read_amount, after_read};
+ghost use Rattle.sf_outside.specs.MemorySource.{read_amount, source_after};
 ghost use Rattle.sf_outside.specs.Source.{ReadsAtMost, KeepsRest, ReadConsumes, EndsAtZero};
 
 use crate::call_counts::CallCounts;
@@ -69,7 +69,7 @@ impl Source for MemSource {
         // What this one does besides.
         ensures fails { IsErr result ↔ NextFails self.old.counts }
         ensures amount { IfOk result (λ n. n ≡ read_amount self.old into.old) }
-        ensures after { self.new ≡ after_read self.old result }
+        ensures after { self.new ≡ source_after self.old result }
     {
         if self.counts.next_fails() {
             return Err(Failed);

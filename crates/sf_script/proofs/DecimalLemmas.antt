@@ -23,8 +23,8 @@ drop_and : (a b c : Bool) → a ≡ true → ((a && b) && c) ≡ (b && c)
 drop_and true b c e = refl
 drop_and false b c e = absurd cc
 
-pub goes_on : (number byte next : ℕ) (text : List ℕ) → Some next ≡ with_digit number byte → decimal_from number (byte ∷ text) ≡ decimal_from next text
-goes_on number byte next text e =
+pub digit_goes_on : (number byte next : ℕ) (text : List ℕ) → Some next ≡ with_digit number byte → decimal_from number (byte ∷ text) ≡ decimal_from next text
+digit_goes_on number byte next text e =
     let p = cond_some (is_digit byte && ltb (number * 10 + (byte - 48)) (2 ^ 64)) (number * 10 + (byte - 48)) next (sym e) in
     let q = and_parts (is_digit byte) (ltb (number * 10 + (byte - 48)) (2 ^ 64)) p.0 in
     let one = drop_and (is_digit byte) (list_all is_digit text) (ltb (value_after (number * 10 + (byte - 48)) text) (2 ^ 64)) q.0 in
@@ -50,12 +50,12 @@ some_if : (b : Bool) (x : ℕ) → b ≡ true → cond b (Some x) None ≡ Some 
 some_if true x e = refl
 some_if false x e = absurd cc
 
-pub ends : (number : ℕ) → number < 2 ^ 64 → decimal_from number [] ≡ Some number
-ends number lt = some_if (ltb number (2 ^ 64)) number (lt-ltb number (2 ^ 64) lt)
+pub digits_end : (number : ℕ) → number < 2 ^ 64 → decimal_from number [] ≡ Some number
+digits_end number lt = some_if (ltb number (2 ^ 64)) number (lt-ltb number (2 ^ 64) lt)
 
 -- the number stays below 2^64
-pub below : (number byte next : ℕ) → Some next ≡ with_digit number byte → next < 2 ^ 64
-below number byte next e =
+pub value_below : (number byte next : ℕ) → Some next ≡ with_digit number byte → next < 2 ^ 64
+value_below number byte next e =
     let n = number * 10 + (byte - 48) in
     let p = cond_some (is_digit byte && ltb n (2 ^ 64)) n next (sym e) in
     let q = and_parts (is_digit byte) (ltb n (2 ^ 64)) p.0 in
@@ -67,5 +67,5 @@ stops_at number [] le e = absurd (omega arith)
 stops_at number (byte ∷ text) le e = stops number byte text e
 
 pub ends_at : (number : ℕ) (rest : List ℕ) → length rest < 1 → number < 2 ^ 64 → decimal_from number rest ≡ Some number
-ends_at number [] le lt = ends number lt
+ends_at number [] le lt = digits_end number lt
 ends_at number (byte ∷ text) le lt = absurd (omega arith)

@@ -86,15 +86,15 @@ stopped None after number reason script e = absurd cc
 stopped (Some due) after number reason script e = let same : due ≡ reason = cc in ap (fault_at number) same
 
 -- a right line, and the lines behind it
-pub goes_on : (number : ℕ) (reading next : Reading) (line : Line) (lines : List Line) → next_reading reading line ≡ Ok next → script_from number reading (line ∷ lines) ≡ script_from (number + 1) next lines
+pub line_goes_on : (number : ℕ) (reading next : Reading) (line : Line) (lines : List Line) → next_reading reading line ≡ Ok next → script_from number reading (line ∷ lines) ≡ script_from (number + 1) next lines
 unfolding next_reading script_from
-goes_on number reading next line lines e =
+line_goes_on number reading next line lines e =
     went (reason_of reading line) (after_line reading line.text) next number (λ r. script_from (number + 1) r lines) e
 
 -- a wrong line
-pub ends : (number : ℕ) (reading : Reading) (reason : Reason) (line : Line) (lines : List Line) → next_reading reading line ≡ Err reason → script_from number reading (line ∷ lines) ≡ fault_at number reason
+pub lines_end : (number : ℕ) (reading : Reading) (reason : Reason) (line : Line) (lines : List Line) → next_reading reading line ≡ Err reason → script_from number reading (line ∷ lines) ≡ fault_at number reason
 unfolding next_reading script_from
-ends number reading reason line lines e =
+lines_end number reading reason line lines e =
     stopped (reason_of reading line) (after_line reading line.text) number reason (script_from (number + 1) (after_line reading line.text) lines) e
 
 -- no line is left
