@@ -1,4 +1,4 @@
--- The free blocks of a store, as runs.
+-- The free blocks of a store, as runs (our own, after VLDB 2008).
 use Rattle.std.specs.Prelude.{◌≡◌, ℕ, ◌+◌, ◌≤◌, ◌<◌, List, [], ◌∷◌, Bool, false, ◌||◌, ◌&&◌, ◌≢◌, length, All, AllPairs, nat_eq}
 use Rattle.std.specs.List.{list_any}
 use Rattle.sf_types.specs.declared.run.Run.{Run}

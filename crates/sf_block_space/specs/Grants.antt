@@ -1,4 +1,4 @@
--- Which free blocks are granted.
+-- Which free blocks are granted (our own, after VLDB 2008).
 use Rattle.std.specs.Prelude.{◌≡◌, ℕ, ◌-◌, ◌≤◌, ◌<◌, ◌⊎◌, List, [], ◌∷◌, Some, take, All, slice_get}
 use Rattle.std.specs.List.{remove}
 use Rattle.sf_types.specs.declared.run.Run.{Run}

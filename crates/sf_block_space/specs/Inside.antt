@@ -1,4 +1,4 @@
--- Steps of a grant and of a return, which the private type of maximal runs takes.
+-- Steps of a grant and of a return, which the private type of maximal runs takes (our own).
 use Rattle.std.specs.Prelude.{◌≡◌, ℕ, ◌+◌, ◌≤◌, ◌<◌, min, ◌⊎◌, List, [], ◌∷◌, Some, All, slice_get, slice_set, length}
 use Rattle.std.specs.List.{remove}
 use Rattle.sf_types.specs.declared.run.Run.{Run}

@@ -1,4 +1,4 @@
--- Parked runs, and the batches in which they leave.
+-- Parked runs, and the batches in which they leave (our own, after VLDB 2008).
 use Rattle.std.specs.Prelude.{◌≡◌, ℕ, zero, suc, ◌+◌, ◌-◌, ◌≤◌, ◌<◌, ◌⊎◌, List, [], ◌∷◌, filter, nat_lt, if◌then◌else◌}
 use Rattle.sf_types.specs.declared.run.Run.{Run}
 use Rattle.sf_types.specs.Space.BlockRuns.{front_of, rest_of}

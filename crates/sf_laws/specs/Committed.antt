@@ -1,4 +1,4 @@
--- Committed values.
+-- Committed values (our own).
 use Rattle.std.specs.Prelude.{◌≡◌, Bool, true, not}
 use Rattle.std.specs.List.{list_all}
 use Rattle.sf_types.specs.Space.Due.{has_fresh}

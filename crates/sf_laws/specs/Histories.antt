@@ -1,4 +1,4 @@
--- Short ways to write calls and histories.
+-- Short ways to write calls and histories, for the examples (our own).
 use Rattle.std.specs.Prelude.{ℕ, List, [], ◌∷◌, map, replicate}
 use Rattle.sf_types.specs.declared.call.Call.{Call}
 use Rattle.sf_types.specs.declared.history.Entry.{Entry}
@@ -13,15 +13,15 @@ use Rattle.sf_types.specs.Orders.Histories.{history_table, history_replies, IsLe
 abbrev pub ends_in : ℕ → Call → Entry
 ends_in s c = record { token = record { session = s; kind = kind.Call }; call = c }
 
--- Its promise. One that is granted is followed by the end of the call, one that is refused isn't.
+-- The promise of a session's call. A granted one is followed by the end of the call, a refused one isn't.
 abbrev pub promises_in : ℕ → Call → Entry
 promises_in s c = record { token = record { session = s; kind = kind.Promise }; call = c }
 
--- The same of session 1.
+-- A call of session 1 that ends.
 abbrev pub ending : Call → Entry
 ending c = ends_in 1 c
 
--- Its promise.
+-- The promise of a call of session 1.
 abbrev pub promises : Call → Entry
 promises c = promises_in 1 c
 

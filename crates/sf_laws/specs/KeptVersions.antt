@@ -1,4 +1,4 @@
--- Versions of rows.
+-- Versions of rows (our own).
 use Rattle.std.specs.Prelude.{◌≡◌, ℕ, ◌-◌, ◌≤◌, true, List, [], slice_index_or, Some}
 use Rattle.sf_types.specs.Inside.NameMaps.{get}
 use Rattle.sf_types.specs.Values.Marks.{Value}

@@ -1,4 +1,4 @@
--- Histories about locators and savepoints.
+-- Histories about locators and savepoints (our own).
 use Rattle.std.specs.Prelude.{List, [], ◌∷◌, ◌++◌, codes}
 use Rattle.sf_types.specs.declared.call.Call.TheVariants as call
 use Rattle.sf_types.specs.declared.history.Entry.{Entry}

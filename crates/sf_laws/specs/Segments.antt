@@ -1,4 +1,4 @@
--- Segments of a value that are as long as they can be.
+-- Segments of a value that are as long as they can be (our own).
 use Rattle.std.specs.Prelude.{◌≡◌, ◌≢◌, false, List, [], ◌∷◌}
 use Rattle.std.specs.List.{list_any}
 use Rattle.sf_types.specs.Values.Marks.{Marked, fresh_bytes, is_fresh}

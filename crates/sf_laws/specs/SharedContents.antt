@@ -1,4 +1,4 @@
--- Shared contents are distinct.
+-- Shared contents are distinct (our own).
 use Rattle.std.specs.Prelude.{◌≡◌, ℕ, true, List, Some, Contains}
 use Rattle.sf_types.specs.Table.Parts.{Content, Table}
 use Rattle.sf_types.specs.Space.Reach.{reach}

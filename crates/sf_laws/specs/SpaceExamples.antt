@@ -1,4 +1,4 @@
--- Histories about space.
+-- Histories about space (our own).
 use Rattle.std.specs.Prelude.{ℕ, true, false, List, [], ◌∷◌, ◌++◌, codes}
 use Rattle.sf_types.specs.declared.call.Call.{Call}
 use Rattle.sf_types.specs.declared.call.Call.TheVariants as call
@@ -10,7 +10,7 @@ use Rattle.sf_laws.specs.Histories.{ends_in, promises_in, calls, flushes, promis
 abbrev pub one_block : Options
 one_block = record (store_of 1) { gather = 512 }
 
--- It has no room for a second content, and finds the first one again.
+-- A store of one block has no room for a second content, and finds the first one again.
 abbrev pub one_block_history : List Entry
 one_block_history =
     calls (call.Insert (codes "a") ∷ call.Lock (codes "p") (codes "a") ∷ [])

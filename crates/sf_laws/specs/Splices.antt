@@ -1,4 +1,4 @@
--- What an edit leaves as it was.
+-- What an edit leaves as it was (our own).
 use Rattle.std.specs.Prelude.{◌≡◌, ℕ, ◌+◌, List, length, take, drop}
 use Rattle.sf_types.specs.Values.Marks.{Marked}
 

@@ -1,4 +1,4 @@
--- Histories whose transcripts are worked out.
+-- Histories whose transcripts are worked out (our own).
 use Rattle.std.specs.Prelude.{ℕ, List, [], ◌∷◌, ◌++◌, codes}
 use Rattle.sf_types.specs.declared.call.Call.{Call}
 use Rattle.sf_types.specs.declared.call.Call.TheVariants as call
@@ -38,8 +38,8 @@ first_history =
     ++ flushes call.Commit
     ++ calls (call.End ∷ [])
 
--- Its transcript: the commit's promise is marked in the order, the content stands in the first block, and the object of
--- the row a has three bytes.
+-- The transcript of the first path: the commit's promise is marked in the order, the content stands in the first block,
+-- and the object of the row a has three bytes.
 abbrev pub first_transcript : List ℕ
 first_transcript = whole_transcript
     (token kind.Call ∷ token kind.Call ∷ token kind.Call ∷ token kind.Call ∷ token kind.Call

@@ -1,4 +1,4 @@
--- True marks: what is told of a byte by its mark is so.
+-- True marks: what is told of a byte by its mark is so (our own).
 use Rattle.std.specs.Prelude.{◌≡◌, ℕ, ◌≤◌, List, [], ◌++◌, length, flat_map, slice_get, Some, All}
 use Rattle.std.specs.Option.{option_map_or}
 use Rattle.sf_types.specs.Values.Marks.{Mark, Zero, Fresh, Stored, Marked, Value}

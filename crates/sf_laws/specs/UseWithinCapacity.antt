@@ -1,4 +1,4 @@
--- What keeps the use of blocks within the capacity.
+-- What keeps the use of blocks within the capacity (our own).
 use Rattle.std.specs.Prelude.{◌≡◌, ℕ, ◌≤◌, true, IsTrue, List, [], ◌∷◌}
 use Rattle.std.specs.List.{AllByRecursion, list_any}
 use Rattle.std.specs.Option.{IfSome}

@@ -1,4 +1,4 @@
--- The places of births and the births of holders.
+-- The places of births and the births of holders (our own).
 use Rattle.std.specs.Prelude.{◌≢◌, ℕ, ◌<◌, ◌^◌, Bool, not, ◌==◌, List, [], ◌∷◌, map, length, flat_map, All, AllPairs, Contains, Option}
 use Rattle.std.specs.List.{list_any, sum_by, count_by, filter}
 use Rattle.std.specs.Option.{unwrap_or}

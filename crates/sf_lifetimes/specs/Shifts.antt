@@ -1,4 +1,4 @@
--- Contents that move to other blocks.
+-- Contents that move to other blocks (our own).
 use Rattle.std.specs.Prelude.{◌≡◌, ◌≢◌, ℕ, ◌<◌, ◌^◌, List, map, length, All, AllPairs, Contains}
 use Rattle.std.specs.FinMap as fin
 use Rattle.sf_types.specs.Space.BlockRuns.{blocks_in}

@@ -1,4 +1,4 @@
--- How what is said of rows may change.
+-- How what is said of rows may change (our own).
 use Rattle.std.specs.Prelude.{◌≡◌, ℕ, IsTrue, List}
 use Rattle.sf_types.specs.Inside.NameMaps.{get, has}
 use Rattle.sf_types.specs.Table.Parts.{Rows}

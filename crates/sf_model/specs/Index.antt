@@ -1,4 +1,4 @@
--- What an index of the commits has.
+-- What an index of the commits has (our own).
 use Rattle.std.specs.Prelude.{◌≡◌, ℕ, List}
 use Rattle.sf_types.specs.Inside.NameMaps.{get}
 use Rattle.sf_types.specs.Table.Parts.{Rows}

@@ -1,4 +1,4 @@
--- What a writing call works on.
+-- What a writing call works on (our own).
 use Rattle.std.specs.Prelude.{◌≡◌, ℕ, Bool, List, [], ◌∷◌, Option, Some, None}
 use Rattle.sf_types.specs.Values.Marks.{Value}
 use Rattle.sf_types.specs.Table.Parts.{Locator, Session}

@@ -1,4 +1,4 @@
--- The bytes that a sink in memory keeps.
+-- The bytes that a sink in memory keeps (our own).
 use Rattle.std.specs.Prelude.{ℕ, Bool, false, ◌||◌, nat_lt, List, [], ◌++◌, length, take, Option, None, Some, if◌then◌else◌}
 
 pub record Kept : Type 0 where

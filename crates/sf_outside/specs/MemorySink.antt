@@ -1,4 +1,4 @@
--- What a `MemSink` is, and what a write to it takes.
+-- What a `MemSink` is, and what a write to it takes (our own).
 use Rattle.std.specs.Prelude.{ℕ, List, length, min, take, Result, Ok, Err}
 use Rattle.sf_outside.specs.CallCounts.{CallCounts, after_success, after_fault}
 use Rattle.sf_outside.specs.Kept.{Kept, kept_with}

@@ -1,4 +1,4 @@
--- What a `MemSource` is, and what a read of it gives.
+-- What a `MemSource` is, and what a read of it gives (our own).
 use Rattle.std.specs.Prelude.{ℕ, List, length, min, drop, Result, Ok, Err}
 use Rattle.sf_outside.specs.CallCounts.{CallCounts, after_success, after_fault}
 

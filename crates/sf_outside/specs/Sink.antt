@@ -1,4 +1,4 @@
--- What a write to a sink does to its bytes.
+-- What a write to a sink does to its bytes (our own).
 use Rattle.std.specs.Prelude.{◌≡◌, ℕ, ◌<◌, ◌≤◌, List, ◌++◌, length, take, Option, Some, IfSome, Result, IfOk, MatchResult}
 
 -- a write takes at most the whole piece, and at least a byte of a piece that isn't empty

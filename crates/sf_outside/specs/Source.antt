@@ -1,4 +1,4 @@
--- What a read of a source does to its bytes and to the buffer.
+-- What a read of a source does to its bytes and to the buffer (our own).
 use Rattle.std.specs.Prelude.{◌≡◌, ℕ, ◌<◌, ◌≤◌, ◌↔◌, List, [], ◌++◌, length, take, drop, Option, Some, IfSome, Result, IfOk, MatchResult}
 
 -- a read gives at most as many bytes as the buffer has

@@ -17,7 +17,7 @@ use std::marker::Model;
 /// Keeps the first bytes that it takes, up to its room. A write moves at most `piece` bytes, and
 /// fails where it was told to.
 ///
-/// It tells its bytes while it took no more than there is room for. Past that it goes on taking.
+/// The sink tells its bytes while it took no more than there is room for. Past that it goes on taking.
 #[derive(Drop)]
 pub struct MemSink {
     kept: Kept,

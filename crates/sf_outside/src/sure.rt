@@ -70,7 +70,7 @@ impl Source for SureSource {
 /// Keeps the first bytes that it takes, up to its room. It takes every piece whole, and no write
 /// fails.
 ///
-/// It tells its bytes while it took no more than there is room for. Past that it goes on taking.
+/// The sink tells its bytes while it took no more than there is room for. Past that it goes on taking.
 #[derive(Drop)]
 pub struct SureSink {
     kept: Kept,

@@ -1,4 +1,4 @@
--- What the reading of an input gives.
+-- What the reading of an input gives (our own).
 use Rattle.sf_outside.specs.Causes.{EndsAtFault}
 use Rattle.sf_script.specs.declared.limits.TheConstants.{SCRIPT_BYTES}
 use Rattle.sf_script.specs.Parts.{ScriptParts}

@@ -1,4 +1,4 @@
--- A table in which session 1 may call.
+-- A table in which session 1 may call (our own).
 use Rattle.std.specs.Prelude.{◌≡◌, false, IsTrue, None}
 use Rattle.sf_types.specs.Table.Parts.{Table}
 use Rattle.sf_types.specs.Table.Sessions.{has_session, session_of}

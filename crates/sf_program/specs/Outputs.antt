@@ -1,4 +1,4 @@
--- What the writing of an output leaves.
+-- What the writing of an output leaves (our own).
 use Rattle.std.specs.Prelude.{ℕ, ◌≤◌, List, length, take, Option}
 use Rattle.sf_outside.specs.Sink.{GrowsBy}
 

@@ -1,4 +1,4 @@
--- The play of a script. There is one session today.
+-- The play of a script (our own). There is one session today.
 use Rattle.std.specs.Prelude.{◌≡◌, ℕ, List, [], ◌∷◌, ◌++◌, map, slice_index_or}
 use Rattle.sf_types.specs.declared.call.Call.{Call}
 use Rattle.sf_types.specs.declared.call.Call.TheVariants.{End}

@@ -1,4 +1,4 @@
--- The numbers of the statuses.
+-- The numbers of the statuses (our own).
 use Rattle.std.specs.Prelude.{ℕ}
 use Rattle.sf_program.specs.declared.status.Status.{Status}
 use Rattle.sf_program.specs.declared.status.Status.TheVariants.{Done, Usage, ScriptRefused, ReadFault, WriteFault, OutOfMemory}

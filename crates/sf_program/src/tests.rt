@@ -83,7 +83,8 @@ fn ran_failing(alloc: Global, read: u64, write: u64) -> Result<(Status, MemSink)
     Ok((status, sink))
 }
 
-// Its script has 108 bytes, so that it is read in 12 calls, and its transcript, in pieces of 10 bytes, is written in 18.
+// The first path has 108 bytes, so that it is read in 12 calls, and its transcript, in pieces of 10 bytes, is written in
+// 18.
 #[test]
 fn faults_are_told(rt: HostRuntime) -> Result<(), Fail> {
     let alloc = rt.alloc();

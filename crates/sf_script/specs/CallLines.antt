@@ -1,4 +1,4 @@
--- The table of calls: the first word of a call, and how the words behind it are read.
+-- The table of calls: the first word of a call, and how the words behind it are read (our own).
 use Rattle.std.specs.Prelude.{ℕ, List, [], ◌∷◌, Option, Some, None, if◌then◌else◌, codes}
 use Rattle.sf_types.specs.declared.call.Call.TheVariants as calls
 use Rattle.sf_script.specs.Calls.{CallForm, Plain, insert_of, delete_of, lock_of, select_of, asof_of, assign_of, free_of, length_of, read_of, instr_of, compare_of, write_of, writeappend_of, append_of, copy_of, erase_of, trim_of, fraginsert_of, fragdelete_of, fragmove_of, fragreplace_of, setoptions_of, savepoint_of, rollback_to_of}

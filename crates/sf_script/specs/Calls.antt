@@ -1,4 +1,4 @@
--- How calls are spelled, from the first word of a call to its last.
+-- How calls are spelled, from the first word of a call to its last (our own).
 use Rattle.std.specs.Prelude.{ℕ, true, false, List, length, Option, Some, None, if◌then◌else◌, codes}
 use Rattle.sf_types.specs.declared.limits.TheConstants.{ROW_NAME_BYTES, LOCATOR_NAME_BYTES}
 use Rattle.sf_types.specs.Values.Names.{name_of}

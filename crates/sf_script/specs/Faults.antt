@@ -1,4 +1,4 @@
--- The words of the reasons.
+-- The words of the reasons (our own).
 use Rattle.std.specs.Prelude.{ℕ, List, codes}
 use Rattle.sf_script.specs.declared.fault.Reason.{Reason}
 use Rattle.sf_script.specs.declared.fault.Reason.TheVariants.{Size, Bytes, Place, Session, Form, Later, Limit, Short}

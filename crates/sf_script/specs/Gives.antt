@@ -1,4 +1,4 @@
--- What a function that may want memory gives.
+-- What a function that may want memory gives (our own).
 use Rattle.std.specs.Prelude.{◌≡◌, Option, Some, None, Result, Ok, Err}
 use Rattle.sf_script.specs.declared.fault.Reason.{Reason}
 use Rattle.sf_script.specs.declared.fault.Reason.TheVariants.{Form}

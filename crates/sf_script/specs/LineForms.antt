@@ -1,4 +1,4 @@
--- The forms of lines. Which form a line has depends on where it stands.
+-- The forms of lines (our own). Which form a line has depends on where it stands.
 use Rattle.std.specs.Prelude.{ℕ, not, ◌&&◌, ◌==◌, List, Option, Some, None, if◌then◌else◌, codes}
 use Rattle.sf_types.specs.declared.call.Call.TheVariants as calls
 use Rattle.sf_script.specs.declared.call.PayloadCall.TheVariants as wants

@@ -1,4 +1,4 @@
--- The lines of a text.
+-- The lines of a text (our own).
 use Rattle.std.specs.Prelude.{ℕ, Bool, true, false, ◌==◌, List, [], ◌∷◌}
 use Rattle.std.specs.List.{slice_split}
 use Rattle.sf_types.specs.Values.Names.{is_between}

@@ -1,4 +1,4 @@
--- Option lines.
+-- Option lines (our own).
 use Rattle.std.specs.Prelude.{ℕ, Bool, true, false, ◌&&◌, ◌||◌, nat_le, List, Option, Some, None, if◌then◌else◌, codes}
 use Rattle.sf_types.specs.declared.limits.TheConstants.{STORE_BLOCKS, RETAINED_COMMITS, LEAST_GATHER_BYTES, MOST_GATHER_BYTES, STORE_DISPENSERS}
 use Rattle.sf_script.specs.Gives.{◌>>=◌}

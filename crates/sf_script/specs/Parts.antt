@@ -1,4 +1,4 @@
--- What a script is.
+-- What a script is (our own).
 use Rattle.std.specs.Prelude.{◌≡◌, ℕ, ◌≤◌, Bool, true, ◌&&◌, nat_le, List, length, IsTrue}
 use Rattle.std.specs.List.{list_all, sum_by}
 use Rattle.sf_types.specs.Limits.{IsInRange}

@@ -1,5 +1,5 @@
 -- Why a line is refused, and what a right line adds to what was read before it: nothing, the header alone, or the
--- sessions line with the script so far.
+-- sessions line with the script so far (our own).
 use Rattle.std.specs.Prelude.{ℕ, ◌+◌, ◌-◌, Bool, false, not, ◌&&◌, ◌||◌, nat_le, nat_lt, List, [], ◌∷◌, ◌++◌, length, replicate, slice_index_or, slice_set, Option, Some, None, is_none, if◌then◌else◌, codes}
 use Rattle.std.specs.List.{list_all}
 use Rattle.std.specs.Option.{option_map_or}

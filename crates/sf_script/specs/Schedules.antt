@@ -1,4 +1,4 @@
--- Numbers of sessions, and schedule lines.
+-- Numbers of sessions, and schedule lines (our own).
 use Rattle.std.specs.Prelude.{ℕ, ◌-◌, Bool, ◌&&◌, ◌==◌, nat_le, List, length, take, drop, slice_index, Option, Some, None, is_some, if◌then◌else◌, codes}
 use Rattle.std.specs.List.{list_all, filter_map}
 use Rattle.sf_script.specs.declared.turn.Turn.{Turn}

@@ -1,4 +1,4 @@
--- The script of a text, or its first wrong line and the reason.
+-- The script of a text, or its first wrong line and the reason (our own).
 use Rattle.std.specs.Prelude.{ℕ, ◌+◌, nat_lt, List, [], ◌∷◌, length, Option, Some, None, Result, Ok, Err, if◌then◌else◌}
 use Rattle.sf_script.specs.declared.fault.Reason.{Reason}
 use Rattle.sf_script.specs.declared.fault.Reason.TheVariants.{Size, Short}

@@ -1,4 +1,4 @@
--- Words, which single spaces separate.
+-- Words, which single spaces separate (our own).
 use Rattle.std.specs.Prelude.{ℕ, Bool, ◌==◌, nat_lt, List, length, Option, Some, None, if◌then◌else◌}
 use Rattle.std.specs.List.{before_first, after_first, position_or_len, slice_split}
 use Rattle.std.specs.Str.{bytes_eq}

@@ -1,4 +1,4 @@
--- The ledger of the tests.
+-- The ledger of the tests (our own).
 use Rattle.std.specs.Prelude.{◌≡◌, ℕ, List, [], ◌∷◌}
 use Rattle.std.specs.FinMap as fin
 use Rattle.sf_types.specs.declared.holder.Holder.{Holder}

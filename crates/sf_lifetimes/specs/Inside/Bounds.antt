@@ -1,4 +1,4 @@
--- What is freed is live.
+-- What is freed is live (our own).
 use Rattle.std.specs.Prelude.{ℕ, ◌≤◌, Option, Some, None}
 use Rattle.std.specs.FinMap as fin
 use Rattle.sf_lifetimes.specs.declared.tally.Tally.{Tally}

@@ -1,4 +1,4 @@
--- How what the crate's types are seen as is stored.
+-- How what the crate's types are seen as is stored (our own).
 use Rattle.std.specs.Prelude.{ℕ, refl}
 use Rattle.std.specs.Coded.{Coded, code_by, coded×, coded_ℕ}
 use Rattle.sf_types.specs.Rooms.{Roomy}

@@ -1,4 +1,4 @@
--- What counts say of a ledger.
+-- What counts say of a ledger (our own).
 use Rattle.std.specs.Prelude.{◌≡◌, ℕ, not, ◌==◌, ◌≤◌, map}
 use Rattle.std.specs.FinMap as fin
 use Rattle.sf_types.specs.Rooms.{Roomy}

@@ -1,4 +1,4 @@
--- Places with the number of their holders.
+-- Places with the number of their holders (our own).
 use Rattle.std.specs.Prelude.{◌≡◌, ℕ, ◌+◌, ◌-◌, ◌≤◌, ◌<◌, ◌^◌, true, cond, is_some, nat_lt, ◌==◌, List, [], ◌∷◌, map, length, Option, Some, None}
 use Rattle.std.specs.List.{sum_by, count_by, filter}
 use Rattle.std.specs.Ordering.{nat_cmp}

@@ -1,4 +1,4 @@
--- How many holders of a birth are left as holders are counted off.
+-- How many holders of a birth are left as holders are counted off (our own).
 use Rattle.std.specs.Prelude.{ℕ, ◌-◌, ◌==◌, cond, List, length, Option, Some, None}
 use Rattle.std.specs.List.{sum_by, count_by}
 use Rattle.std.specs.Ordering.{nat_cmp}

@@ -1,4 +1,4 @@
--- Scripts that are being read.
+-- Scripts that are being read (our own).
 use Rattle.std.specs.Prelude.{◌≡◌, ℕ, ◌≤◌}
 use Rattle.sf_script.specs.declared.limits.TheConstants.{SCRIPT_CALLS, SCRIPT_PAYLOAD_BYTES}
 use Rattle.sf_script.specs.Parts.{ScriptParts, IsScript, call_count, payload_bytes}

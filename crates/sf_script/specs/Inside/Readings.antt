@@ -1,4 +1,4 @@
--- From what was read to what is read with one more line.
+-- From what was read to what is read with one more line (our own).
 use Rattle.std.specs.Prelude.{◌≡◌, ℕ, ◌≤◌, IsTrue, false, Option, Some, None, Result, Ok, Err, if◌then◌else◌}
 use Rattle.sf_script.specs.declared.fault.Reason.{Reason}
 use Rattle.sf_script.specs.declared.reading.Reading.{Reading}

@@ -1,4 +1,4 @@
--- What is spelled in a text, without where it lies in memory.
+-- What is spelled in a text, without where it lies in memory (our own).
 use Rattle.sf_script.specs.declared.payload.SpelledPayload.{SpelledPayload}
 use Rattle.sf_script.specs.declared.payload.SpelledPayload.TheVariants as payloads
 use Rattle.sf_script.specs.declared.call.SpelledCall.{SpelledCall}

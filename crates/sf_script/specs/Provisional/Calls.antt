@@ -1,4 +1,4 @@
--- The calls that may stand in a script today.
+-- The calls that may stand in a script today (our own).
 use Rattle.std.specs.Prelude.{Bool, true, false}
 use Rattle.sf_types.specs.declared.call.Call.{Call}
 use Rattle.sf_types.specs.declared.call.Call.TheVariants as calls

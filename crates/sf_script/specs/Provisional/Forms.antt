@@ -1,4 +1,4 @@
--- The forms of lines that the program plays today. A line of another form is refused with the reason `later`.
+-- The forms of lines that the program plays today (our own). A line of another form is refused with the reason `later`.
 use Rattle.std.specs.Prelude.{Bool, true, false, ◌==◌, Option, Some, None, Result, Ok, Err, if◌then◌else◌}
 use Rattle.sf_types.specs.declared.call.Call.{Call}
 use Rattle.sf_types.specs.declared.call.Call.TheVariants as calls

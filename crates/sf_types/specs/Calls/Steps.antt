@@ -1,4 +1,4 @@
--- One call of a session that flushes nothing: what it does, by cases on the call.
+-- One call of a session that flushes nothing: what it does, by cases on the call (our own).
 use Rattle.std.specs.Prelude.{ℕ, List}
 use Rattle.sf_types.specs.declared.call.Call.{Call}
 use Rattle.sf_types.specs.declared.call.Call.TheVariants as call

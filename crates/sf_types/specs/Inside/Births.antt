@@ -1,4 +1,4 @@
--- Rising lists of births, which are numbers from 1.
+-- Rising lists of births, which are numbers from 1 (our own).
 use Rattle.std.specs.Prelude.{ℕ, ◌<◌, ◌==◌, nat_lt, List, [], ◌∷◌, if◌then◌else◌}
 
 -- A birth is less than all of a list.

@@ -1,4 +1,4 @@
--- Finite maps from names: a map is the list of its entries, whose names rise in byte order, each once.
+-- Finite maps from names: a map is the list of its entries, whose names rise in byte order, each once (our own).
 use Rattle.std.specs.Prelude.{ℕ, Bool, List, Option, is_some}
 use Rattle.std.specs.Ordering.{is_eq}
 use Rattle.std.specs.Map.{lookup, remove_entry}
