@@ -1,5 +1,5 @@
 -- Which commit gave a row its value.
-use Rattle.std.proofs.Common.{◌≡◌, ℕ, suc, ◌+◌, ◌-◌, ◌≤◌, ◌<◌, Bool, true, false, ◌||◌, List, [], ◌∷◌, ◌++◌, length, take, drop, take-add, get_or, Option, Some, None, refl, sym, ap, ◌∙◌, ◌⊎◌, inl, inr, arith}
+use Rattle.std.proofs.Common.{◌≡◌, ℕ, suc, ◌+◌, ◌-◌, ◌≤◌, ◌<◌, true, false, ◌||◌, List, [], ◌∷◌, ◌++◌, length, take, drop, take-add, get_or, Option, Some, None, refl, sym, ap, ◌∙◌, ◌⊎◌, inl, inr, arith}
 use Rattle.std.specs.Prelude.{nat_lt, is_none}
 use Rattle.std.proofs.lemmas.Bool.{cases_lt}
 use Rattle.std.proofs.lemmas.Bool.Decides.{nat_tests}
@@ -9,25 +9,15 @@ use Rattle.sf_types.specs.Values.Marks.{Value}
 use Rattle.sf_types.specs.Table.Parts.{Rows, Table}
 use Rattle.sf_types.specs.Table.Versions.{value_or_absent, later_change, last_change, commit_count}
 use Rattle.sf_types.specs.Space.Reach.{is_kept}
+use Rattle.sf_types.proofs.BoolLemmas.{or-true}
+use Rattle.sf_types.proofs.VersionLemmas.{last_change-append}
 use Rattle.sf_laws.specs.KeptVersions.{IsKeptVersion, IsValueSinceFloor}
 use Rattle.sf_laws.proofs.HeldLemmas.{later_none}
 use Rattle.sf_laws.proofs.OptionLemmas.{none_from}
 
-later_assoc : (a b c : Option (Option Value)) → later_change (later_change a b) c ≡ later_change a (later_change b c)
-later_assoc a b None = refl
-later_assoc a b (Some x) = refl
-
-said-append : (xs ys : List Rows) (row : List ℕ) → last_change (xs ++ ys) row ≡ later_change (last_change xs row) (last_change ys row)
-said-append [] ys row = none-first (last_change ys row)
-  where
-    none-first : (o : Option (Option Value)) → o ≡ later_change None o
-    none-first None = refl
-    none-first (Some x) = refl
-said-append (c ∷ xs) ys row = ap (later_change (get c row)) (said-append xs ys row) ∙ sym (later_assoc (get c row) (last_change xs row) (last_change ys row))
-
 -- a front of commits says nothing where all of them don't
 front-none : (xs ys : List Rows) (row : List ℕ) → last_change (xs ++ ys) row ≡ None → last_change xs row ≡ None
-front-none xs ys row none = (later_none (last_change xs row) (last_change ys row) (sym (said-append xs ys row) ∙ none)).0
+front-none xs ys row none = (later_none (last_change xs row) (last_change ys row) (sym (last_change-append xs ys row) ∙ none)).0
 
 -- the last commit that names a row
 record IsLast (cs : List Rows) (row : List ℕ) (x : Option Value) (k : ℕ) : Type 0 where
@@ -49,10 +39,6 @@ last_of (c ∷ cs) row x is = choose (last_change cs row) refl is (last_of cs ro
 some-said : (o : Option (Option Value)) (v : Value) → value_or_absent o ≡ Some v → o ≡ Some (Some v)
 some-said None v is = absurd cc
 some-said (Some x) v is = ap (λ (y : Option Value). Some y) is
-
-or-true : (a b : Bool) → b ≡ true → (a || b) ≡ true
-or-true true b is = refl
-or-true false b is = is
 
 -- the commits up to the floor are a front of those up to a later number
 floor-front : (commits : List Rows) (floor n k : ℕ) → floor ≤ n → k ≤ floor → floor ≤ length commits → drop k (take n commits) ≡ drop k (take floor commits) ++ take (n - floor) (drop floor commits)
@@ -105,7 +91,7 @@ given-at commits row k n v some le high given silent =
     let before = take (k - 1) commits in
     let behind = get_or commits (k - 1) [] ∷ drop k (take n commits) in
     ap (λ (cs : List Rows). value_or_absent (last_change cs row)) parts
-    ∙ ap value_or_absent (said-append before behind row)
+    ∙ ap value_or_absent (last_change-append before behind row)
     ∙ ap (λ o. value_or_absent (later_change (last_change before row) (later_change (get (get_or commits (k - 1) []) row) o))) silent
     ∙ ap (λ o. value_or_absent (later_change (last_change before row) o)) given
 

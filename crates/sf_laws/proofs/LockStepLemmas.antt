@@ -7,6 +7,7 @@ use Rattle.sf_types.specs.declared.call.Call.{Call}
 use Rattle.sf_types.specs.declared.call.Call.TheVariants as call
 use Rattle.sf_types.specs.Inside.NameMaps.{NameMap, is_same_name, get}
 use Rattle.sf_types.proofs.NameMapLemmas.{same_name}
+use Rattle.sf_types.proofs.VersionLemmas.{last_change-append}
 use Rattle.sf_types.specs.Values.Marks.{Value, fresh_count}
 use Rattle.sf_types.specs.Table.Parts.{Rows, Savepoint, Session, Table}
 use Rattle.sf_types.specs.Table.Versions.{value_or_absent, later_change, last_change, current_value}
@@ -93,22 +94,9 @@ locked_named locks s named rows locked among =
 among_own : (locks : NameMap ℕ) (s : ℕ) (rows : Rows) → AreLocked locks s rows → AreAmong (locked_rows locks s) rows
 among_own locks s rows locked = each_weaker (λ e. holds_lock locks s e.0 ≡ true) (λ e. list_any (is_same_name e.0) (locked_rows locks s) ≡ true) rows (λ e held. among_locked locks s e.0 held) locked
 
--- one more commit
-later_assoc : (a b c : Option (Option Value)) → later_change a (later_change b c) ≡ later_change (later_change a b) c
-later_assoc a b None = refl
-later_assoc a b (Some x) = refl
-
-said_push : (cs : List Rows) (w : Rows) (row : List ℕ) → last_change (cs ++ w ∷ []) row ≡ later_change (last_change cs row) (get w row)
-said_push [] w row = nothing_before (get w row)
-  where
-    nothing_before : (o : Option (Option Value)) → later_change o None ≡ later_change None o
-    nothing_before None = refl
-    nothing_before (Some x) = refl
-said_push (c ∷ cs) w row = ap (later_change (get c row)) (said_push cs w row) ∙ later_assoc (get c row) (last_change cs row) (get w row)
-
 -- a commit of rows that one session has locked changes no row that another has locked
 commit_apart : (t : Table) (s : ℕ) (w : Rows) → AreLocked t.locks s w → (r : ℕ) (row : List ℕ) → (r ≡ s → ⊥) → holds_lock t.locks r row ≡ true → value_or_absent (last_change (t.commits ++ w ∷ []) row) ≡ current_value t row
-commit_apart t s w locked r row apart held = ap value_or_absent (said_push t.commits w row ∙ go (get w row) refl)
+commit_apart t s w locked r row apart held = ap value_or_absent (last_change-append t.commits (w ∷ []) row ∙ go (get w row) refl)
   where
     go : (o : Option (Option Value)) → get w row ≡ o → later_change (last_change t.commits row) o ≡ last_change t.commits row
     go None is = refl

@@ -3,7 +3,7 @@ use Rattle.std.proofs.Common.{◌≡◌, ℕ, ◌+◌, ◌^◌, ◌≤◌, ◌<�
 use Rattle.std.specs.Prelude.{◌==◌, ◌||◌, ◌≢◌, is_some, T, All, AllPairs}
 use Rattle.std.specs.List.{sum_by, count_by, AllByRecursion}
 use Rattle.std.specs.List.Sorted.{IsStrictlySortedBy}
-use Rattle.std.specs.Ordering.{nat_cmp, is_lt, is_eq}
+use Rattle.std.specs.Ordering.{nat_cmp, is_eq}
 use Rattle.std.specs.declared.cmp.Ordering.TheVariants.{Less}
 use Rattle.std.specs.Cmp.{nat_cmp_total, ranked, unsigned_Decides}
 use Rattle.std.specs.Map.{keys_of, lookup}
@@ -17,7 +17,7 @@ use Rattle.sf_types.specs.declared.birth_runs.BirthRuns.{BirthRuns}
 use Rattle.sf_types.specs.declared.run.Run.{Run}
 use Rattle.sf_types.specs.Inside.Births.{IsBelowAll, IsRising}
 use Rattle.sf_types.specs.Space.BlockRuns.{blocks_in}
-use Rattle.sf_types.proofs.BoolLemmas.{first, second, both}
+use Rattle.sf_types.proofs.BoolLemmas.{first, second}
 use Rattle.sf_types.proofs.NumberLemmas.{own_number, same_number}
 use Rattle.sf_shrink.specs.Plans.{blocks_of_places, ArePlaced}
 use Rattle.sf_lifetimes.specs.declared.place_map.Counted.{Counted}
@@ -27,7 +27,7 @@ use Rattle.sf_lifetimes.specs.Inside.Counted.{live_places_in, waiting_places_in}
 use Rattle.sf_lifetimes.proofs.MapSumLemmas.{weight, same_sum}
 use Rattle.sf_lifetimes.proofs.CountLemmas.{distinct, below, at_most_one}
 use Rattle.sf_lifetimes.proofs.LedgerLemmas.{waiting_runs, get_live, get_waiting}
-use Rattle.sf_types.proofs.NameMapLemmas.{ordering_less}
+use Rattle.sf_types.proofs.NameMapLemmas.{ordering_less, sorted_from_ordered}
 
 -- how many times runs name a block
 abbrev pub times_named : ℕ → List Run → ℕ
@@ -111,19 +111,10 @@ pub find_in_tree : {X : Type 0} (es : List (ℕ × X)) (q : ℕ) → find nat_cm
 find_in_tree [] q = refl
 find_in_tree (e ∷ es) q = ap (cond (is_eq (nat_cmp q e.0)) (Some e.1)) (find_in_tree es q)
 
-below_from_all : {X : Type 0} (x : ℕ) (es : List (ℕ × X)) → AllByRecursion (λ y. nat_cmp x y ≡ Less) (keys_of es) → T (below_all nat_cmp x es)
-below_from_all x [] all = tt
-below_from_all x (e ∷ es) all = both (is_lt (nat_cmp x e.0)) (below_all nat_cmp x es) (subst (λ r. T (is_lt r)) (sym all.0) tt) (below_from_all x es all.1)
-
-sorted_from_ordered : {X : Type 0} (es : List (ℕ × X)) → IsStrictlySortedBy nat_cmp (keys_of es) → T (is_sorted nat_cmp es)
-unfolding IsStrictlySortedBy
-sorted_from_ordered [] ordered = tt
-sorted_from_ordered (e ∷ es) ordered = both (below_all nat_cmp e.0 es) (is_sorted nat_cmp es) (below_from_all e.0 es ordered.0) (sorted_from_ordered es ordered.1)
-
 -- a tree that finds just the live places has their entries
 pub tree_entries : (m : CountedMap) (es : List (ℕ × List Run)) → IsStrictlySortedBy nat_cmp (keys_of es) → ((q : ℕ) → lookup (λ k. is_eq (nat_cmp q k)) es ≡ live_runs (fin.get m q)) → es ≡ entries (live_places_in m)
 tree_entries m es ordered finds =
-    same_entries nat_cmp nat_cmp_total nat_cmp-IsAntisymmetric es (entries (live_places_in m)) (sorted_from_ordered es ordered) (entries_sorted (live_places_in m))
+    same_entries nat_cmp nat_cmp_total nat_cmp-IsAntisymmetric es (entries (live_places_in m)) (sorted_from_ordered nat_cmp es ordered) (entries_sorted (live_places_in m))
     (λ q. find_in_tree es q ∙ finds q ∙ sym (get_live m q) ∙ get-entries (live_places_in m) q)
 
 -- What a tree has once all keys but some were looked at: nothing but what is live, and all of that.

@@ -8,35 +8,19 @@ use Rattle.sf_types.specs.Values.Marks.{Value}
 use Rattle.sf_types.specs.Table.Parts.{Rows}
 use Rattle.sf_types.specs.Table.Versions.{value_or_absent, later_change, last_change, merged_commits, present_values}
 use Rattle.sf_types.proofs.NameMapLemmas.{rising_empty, rising_from_ordered}
-use Rattle.sf_types.proofs.VersionLemmas.{get-merged_over, rising-merged_over, present-same}
+use Rattle.sf_types.proofs.VersionLemmas.{none_before, last_change-append, get-merged_over, rising-merged_over, present-same}
 use Rattle.sf_model.specs.Index.{HoldsCurrent}
 use Rattle.sf_model.specs.Changes.{KeepsValues}
-
-after_none : (o : Option (Option Value)) → later_change None o ≡ o
-after_none None = refl
-after_none (Some change) = refl
 
 -- the rows that are present in the index are those that are present after the commits
 pub present-index : (index : Rows) (commits : List Rows) → IsStrictlySortedBy name_cmp (keys_of index) → HoldsCurrent index commits → present_values index ≡ present_values (merged_commits [] commits)
 present-index index commits ordered holds =
     present-same index (merged_commits [] commits) (rising_from_ordered index ordered) (rising-merged_over commits [] (rising_empty (Option Value)))
-    (λ q. holds.same q ∙ ap value_or_absent (sym (after_none (last_change commits q)) ∙ sym (get-merged_over commits [] q)))
+    (λ q. holds.same q ∙ ap value_or_absent (sym (none_before (last_change commits q)) ∙ sym (get-merged_over commits [] q)))
 
 -- an index that says the same as one that has what the rows hold
 pub holds_after : (old new : Rows) (commits : List Rows) → KeepsValues old new → HoldsCurrent old commits → HoldsCurrent new commits
 holds_after old new commits same holds = record { same = λ q. same.same q ∙ holds.same q }
-
-said_last : (cs : List Rows) (c : Rows) (q : List ℕ) → last_change (cs ++ c ∷ []) q ≡ later_change (last_change cs q) (get c q)
-said_last [] c q = only (get c q)
-  where
-    only : (o : Option (Option Value)) → later_change o None ≡ later_change None o
-    only None = refl
-    only (Some change) = refl
-said_last (d ∷ cs) c q = ap (later_change (get d q)) (said_last cs c q) ∙ sym (grouped (get d q) (last_change cs q) (get c q))
-  where
-    grouped : (x y z : Option (Option Value)) → later_change (later_change x y) z ≡ later_change x (later_change y z)
-    grouped x y None = refl
-    grouped x y (Some change) = refl
 
 same_later : (x y z : Option (Option Value)) → value_or_absent x ≡ value_or_absent y → value_or_absent (later_change x z) ≡ value_or_absent (later_change y z)
 same_later x y None same = same
@@ -48,5 +32,5 @@ holds_more old new commits working holds changed = record {
   same = λ q.
       ap value_or_absent (changed q)
       ∙ same_later (get old q) (last_change commits q) (get working q) (holds.same q)
-      ∙ ap value_or_absent (sym (said_last commits working q));
+      ∙ ap value_or_absent (sym (last_change-append commits (working ∷ []) q));
 }

@@ -1,7 +1,6 @@
 -- Tables in which one session's part was changed.
-use Rattle.std.proofs.Common.{◌≡◌, ℕ, ◌+◌, ◌-◌, ◌≤◌, ◌<◌, Bool, true, false, ◌&&◌, cond, IsTrue, List, [], ◌∷◌, ◌++◌, length, get_or, Option, Some, None, refl, sym, ap, ◌∙◌, arith}
-use Rattle.std.specs.Prelude.{is_some, unwrap_or, nat_le}
-use Rattle.std.proofs.lemmas.Bool.Decides.{nat_tests}
+use Rattle.std.proofs.Common.{◌≡◌, ℕ, ◌+◌, ◌-◌, ◌≤◌, ◌<◌, Bool, true, false, ◌&&◌, cond, IsTrue, List, [], ◌∷◌, ◌++◌, length, get_or, Option, Some, None, refl, sym, ap, ◌∙◌}
+use Rattle.std.specs.Prelude.{is_some, unwrap_or}
 use Rattle.std.proofs.lemmas.Option.{slice_get-get_or}
 use Rattle.sf_types.specs.declared.reply.Reply.{Reply}
 use Rattle.sf_types.specs.declared.reply.Reply.TheVariants as reply
@@ -21,15 +20,13 @@ use Rattle.sf_types.specs.declared.call.Call.TheVariants.{WriteAppend}
 use Rattle.sf_types.specs.declared.history.Kind.TheVariants as kind
 use Rattle.sf_types.specs.Calls.Steps.{part_step, write_step, step}
 use Rattle.sf_types.specs.Table.Versions.{commit_count, current_value}
+use Rattle.sf_types.proofs.NumberLemmas.{one_less}
 use Rattle.sf_types.proofs.RefusalLemmas.{same_part, some-is, step_refused}
-
-within : (s n : ℕ) → IsTrue (nat_le 1 s && nat_le s n) → s - 1 < n
-within s n has = grind (arith, nat_tests)
 
 -- the part that an index gives is the session's
 pub session_at : (t : Table) (s : ℕ) (x : Session) → IsTrue (has_session t s) → x ≡ get_or t.sessions (s - 1) x → x ≡ session_of t s
 session_at t s x has is =
-    is ∙ sym (ap (λ o. unwrap_or o new_session) (slice_get-get_or t.sessions (s - 1) x (within s (length t.sessions) has)))
+    is ∙ sym (ap (λ o. unwrap_or o new_session) (slice_get-get_or t.sessions (s - 1) x (one_less s (length t.sessions) has)))
 
 pub insert_done : (t : Table) (s : ℕ) (row : List ℕ) (locks : NameMap ℕ) (p : Session) → is_busy t.locks s row ≡ false → is_some (row_value (session_of t s) (current_value t row) row) ≡ false
     → locks ≡ with_lock t.locks s row → p ≡ after_insert (session_of t s) row

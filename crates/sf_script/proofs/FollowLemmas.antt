@@ -1,10 +1,11 @@
 -- A form that is built and within the limits may follow.
 use Rattle.std.proofs.Common.{◌≡◌, ℕ, ◌≤◌, Bool, true, false, cond, ◌&&◌, leb, List, Option, Some, None, Ok, refl, subst, arith}
-use Rattle.std.specs.Prelude.{not, codes}
+use Rattle.std.specs.Prelude.{codes}
 use Rattle.std.proofs.lemmas.Bool.{and_parts, leb-true}
 use Rattle.std.proofs.lemmas.Option.{cond_some}
 use Rattle.sf_types.specs.declared.call.Call.{Call}
 use Rattle.sf_types.specs.declared.call.Call.TheVariants as calls
+use Rattle.sf_types.proofs.BoolLemmas.{not_not}
 use Rattle.sf_script.specs.declared.call.PayloadCall.{PayloadCall}
 use Rattle.sf_script.specs.declared.call.PayloadCall.TheVariants as wants
 use Rattle.sf_script.specs.declared.reading.Reading.{Reading}
@@ -84,10 +85,6 @@ pub stands : (form : CallForm) → is_built_call form ≡ true → can_stand (sp
 stands (Plain call) e = plain_stands call e
 stands (WithPayload call payload) e = with_stands call payload e
 
-not_false : (b : Bool) → not b ≡ false → b ≡ true
-not_false true e = refl
-not_false false e = absurd cc
-
 pub can_follow : (reading : Reading) (text : List ℕ) (form : LineForm) → form_or_later (form_of reading text) ≡ Ok form → form_passes_limit reading form ≡ false → CanFollow reading form
 unfolding form_passes_limit
 can_follow reads.Nothing text HeaderLine h limit = tt
@@ -97,7 +94,7 @@ can_follow reads.Nothing text (SetsOption option) h limit = tt
 can_follow reads.Header text (SetsOption option) h limit = tt
 can_follow (reads.Sessions parts) text (SetsOption option) h limit = tt
 can_follow reading text (SessionsLine number) h limit =
-    let p = and_parts (leb 1 number) (leb number 16) (not_false (leb 1 number && leb number 16) limit) in
+    let p = and_parts (leb 1 number) (leb number 16) (not_not (leb 1 number && leb number 16) limit) in
     (leb-true 1 number p.0, leb-true number 16 p.1)
 can_follow reads.Nothing text (ScheduleLine turns) h limit = tt
 can_follow reads.Header text (ScheduleLine turns) h limit = tt

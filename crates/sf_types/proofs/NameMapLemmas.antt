@@ -68,15 +68,20 @@ equal Greater p = absurd cc
 pub same_name : (a b : List ℕ) → is_same_name a b ≡ true → a ≡ b
 same_name a b is = slice_cmp-IsAntisymmetric nat_cmp-IsAntisymmetric a b (equal (name_cmp a b) is)
 
-below_from_all : {X : Type 0} (x : List ℕ) (m : NameMap X) → AllByRecursion (λ y. name_cmp x y ≡ Less) (keys_of m) → T (fin.below_all name_cmp x m)
-below_from_all x [] all = tt
-below_from_all x (e ∷ m) all = both (is_lt (name_cmp x e.0)) (fin.below_all name_cmp x m) (subst (λ r. T (is_lt r)) (sym all.0) tt) (below_from_all x m all.1)
+below_from_all : {K X : Type 0} (order : K → K → Ordering) (x : K) (m : List (K × X)) → AllByRecursion (λ y. order x y ≡ Less) (keys_of m) → T (fin.below_all order x m)
+below_from_all order x [] all = tt
+below_from_all order x (e ∷ m) all = both (is_lt (order x e.0)) (fin.below_all order x m) (subst (λ r. T (is_lt r)) (sym all.0) tt) (below_from_all order x m all.1)
+
+-- entries whose keys rise are sorted, by any order
+pub sorted_from_ordered : {K X : Type 0} (order : K → K → Ordering) (m : List (K × X)) → IsStrictlySortedBy order (keys_of m) → T (fin.is_sorted order m)
+unfolding IsStrictlySortedBy
+sorted_from_ordered order [] ordered = tt
+sorted_from_ordered order (e ∷ m) ordered = both (fin.below_all order e.0 m) (fin.is_sorted order m) (below_from_all order e.0 m ordered.0) (sorted_from_ordered order m ordered.1)
 
 -- the entries of a tree of std rise
 pub rising_from_ordered : {X : Type 0} (m : NameMap X) → IsStrictlySortedBy name_cmp (keys_of m) → IsRisingMap m
-unfolding IsRisingMap IsStrictlySortedBy
-rising_from_ordered [] ordered = tt
-rising_from_ordered (e ∷ m) ordered = both (fin.below_all name_cmp e.0 m) (fin.is_sorted name_cmp m) (below_from_all e.0 m ordered.0) (rising_from_ordered m ordered.1)
+unfolding IsRisingMap
+rising_from_ordered m ordered = sorted_from_ordered name_cmp m ordered
 
 -- a name that is below all of a map isn't in it
 pub absent_below : {X : Type 0} (x : List ℕ) (m : NameMap X) → T (fin.below_all name_cmp x m) → get m x ≡ None

@@ -1,5 +1,5 @@
 -- What rows hold, looked up and listed.
-use Rattle.std.proofs.Common.{◌≡◌, ℕ, Bool, true, false, cond, List, [], ◌∷◌, Option, Some, None, refl, sym, ap, ◌∙◌}
+use Rattle.std.proofs.Common.{◌≡◌, ℕ, Bool, true, false, cond, List, [], ◌∷◌, ◌++◌, Option, Some, None, refl, sym, ap, ◌∙◌}
 use Rattle.std.specs.Prelude.{T}
 use Rattle.std.specs.Ordering.{is_lt}
 use Rattle.std.specs.Cmp.Lexicographic.{nat_list_cmp_total}
@@ -27,6 +27,17 @@ get-over lower (e ∷ es) q =
 later_assoc : (a b c : Option (Option Value)) → later_change (later_change a b) c ≡ later_change a (later_change b c)
 later_assoc a b None = refl
 later_assoc a b (Some change) = refl
+
+pub none_before : (o : Option (Option Value)) → later_change None o ≡ o
+none_before None = refl
+none_before (Some change) = refl
+
+-- what commits say of a row, with some more behind them
+pub last_change-append : (cs more : List Rows) (row : List ℕ) → last_change (cs ++ more) row ≡ later_change (last_change cs row) (last_change more row)
+last_change-append [] more row = sym (none_before (last_change more row))
+last_change-append (c ∷ cs) more row =
+    ap (later_change (get c row)) (last_change-append cs more row)
+    ∙ sym (later_assoc (get c row) (last_change cs row) (last_change more row))
 
 -- the commits in one map have what the last of them to name a row says
 pub get-merged_over : (cs : List Rows) (lower : Rows) (q : List ℕ) → get (merged_commits lower cs) q ≡ later_change (get lower q) (last_change cs q)
