@@ -5,7 +5,7 @@ use Rattle.std.proofs.lemmas.List.Edits.{length-remove}
 use Rattle.std.proofs.lemmas.Option.{get_or_from_slice_get, slice_get_within}
 use Rattle.sf_types.specs.declared.run.Run.{Run}
 use Rattle.sf_types.specs.Space.BlockRuns.{front_of}
-use Rattle.sf_block_space.specs.Grants.{IsGrant, IsLongest}
+use Rattle.sf_block_space.specs.Inside.{IsGrant, IsLongest}
 use Rattle.sf_block_space.specs.Inside.{IsRoomFor, IsTaken}
 
 -- what holds of all runs holds of this one

@@ -2,6 +2,7 @@ pub mod ChoiceLemmas
 pub mod GapLemmas
 pub mod GivenLemmas
 pub mod GrantLemmas
+pub mod GrantRunLemmas
 pub mod MemberLemmas
 pub mod OffsetLemmas
 pub mod OrderLemmas

@@ -1,10 +1,10 @@
 -- Runs in their order.
-use Rattle.std.proofs.Common.{◌≡◌, ℕ, zero, suc, ◌+◌, ◌-◌, ◌≤◌, ◌<◌, List, [], ◌∷◌, ◌++◌, length, get_or, refl, arith}
+use Rattle.std.proofs.Common.{◌≡◌, ℕ, zero, suc, ◌+◌, ◌-◌, ◌^◌, ◌≤◌, ◌<◌, List, [], ◌∷◌, ◌++◌, length, get_or, refl, sym, subst, arith}
 use Rattle.std.proofs.lemmas.List.{length-append}
 use Rattle.std.proofs.lemmas.List.FromFn.{length-range_with_len}
 use Rattle.sf_types.specs.declared.run.Run.{Run}
 use Rattle.sf_types.specs.Space.BlockRuns.{blocks_in, blocks_in_run}
-use Rattle.sf_block_space.specs.Free.{AreFreeRunsFrom}
+use Rattle.sf_block_space.specs.Free.{AreFreeRuns, AreFreeRunsFrom}
 use Rattle.sf_block_space.specs.Inside.{BeginsFrom}
 
 -- The lowest block at which a run may begin that follows these ones and doesn't touch them.
@@ -60,3 +60,10 @@ pub run-within : (from capacity : ℕ) (runs : List Run) (at : ℕ) (d : Run) �
 run-within from capacity [] at d free less = absurd (omega (arith, less))
 run-within from capacity (run ∷ runs) zero d free less = (free.1, free.2)
 run-within from capacity (run ∷ runs) (suc at) d free less = run-within (run.first + run.blocks + 1) capacity runs at d free.3 (omega (arith, less))
+
+-- a run below a capacity of 32 bits ends below 2 ^ 32
+pub run-fits : (capacity : ℕ) (runs : List Run) (at : ℕ) (run : Run) → AreFreeRuns capacity runs → at < length runs → capacity < 2 ^ 32 → run ≡ get_or runs at run → run.first + run.blocks < 2 ^ 32
+run-fits capacity runs at run free inside small is =
+    let size = (run-within 0 capacity runs at run free inside).1 in
+    let here = subst (λ (r : Run). r.first + r.blocks ≤ capacity) (sym is) size in
+    omega (arith, small, here)

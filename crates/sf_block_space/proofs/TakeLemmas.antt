@@ -7,8 +7,7 @@ use Rattle.std.proofs.lemmas.List.FromFn.{length-range_with_len, get_or-range_wi
 use Rattle.std.proofs.lemmas.Option.{get_or_from_slice_get, slice_get_within}
 use Rattle.std.proofs.lemmas.Grind.{flat_map-append}
 use Rattle.sf_types.specs.declared.run.Run.{Run}
-use Rattle.sf_types.specs.Space.BlockRuns.{blocks_in, blocks_in_run}
-use Rattle.sf_types.specs.Space.BlockRuns.{front_of, rest_of}
+use Rattle.sf_types.specs.Space.BlockRuns.{blocks_in, blocks_in_run, front_of, rest_of}
 use Rattle.sf_types.proofs.BoolLemmas.{none-of-both}
 use Rattle.sf_types.proofs.ListLemmas.{parts-at}
 use Rattle.sf_types.proofs.RunLemmas.{blocks-within, run-split}

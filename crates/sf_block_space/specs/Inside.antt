@@ -1,12 +1,31 @@
 -- Steps of a grant and of a return, which the private type of maximal runs takes (our own).
-use Rattle.std.specs.Prelude.{◌≡◌, ℕ, ◌+◌, ◌≤◌, ◌<◌, min, ◌⊎◌, List, [], ◌∷◌, Some, All, slice_get, slice_set, length}
+use Rattle.std.specs.Prelude.{◌≡◌, ℕ, ◌+◌, ◌-◌, ◌≤◌, ◌<◌, min, ◌⊎◌, List, [], ◌∷◌, Some, All, take, slice_get, slice_set, length}
 use Rattle.std.specs.List.{remove}
 use Rattle.sf_types.specs.declared.run.Run.{Run}
-use Rattle.sf_types.specs.Space.BlockRuns.{blocks_in}
+use Rattle.sf_types.specs.Space.BlockRuns.{blocks_in, front_of, rest_of}
 use Rattle.sf_types.specs.Rooms.{Roomy}
-use Rattle.sf_types.specs.Space.BlockRuns.{front_of, rest_of}
 use Rattle.sf_block_space.specs.Free.{FreeSpace, AreFreeRuns, AreOut, Gains}
-use Rattle.sf_block_space.specs.Grants.{IsFirstFit, IsLongest}
+
+-- First fit: the run at this offset has at least n blocks, and each run before it has fewer.
+pub record IsFirstFit (runs : List Run) (n at : ℕ) (run : Run) : Type 0 where
+  pub stands : slice_get runs at ≡ Some run
+  pub enough : n ≤ run.blocks
+  pub lowest : All (λ before. before.blocks < n) (take at runs)
+
+-- The run at this offset is the longest, and the lowest of equals.
+pub record IsLongest (runs : List Run) (at : ℕ) (run : Run) : Type 0 where
+  pub stands : slice_get runs at ≡ Some run
+  pub longest : All (λ other. other.blocks ≤ run.blocks) runs
+  pub lowest : All (λ before. before.blocks < run.blocks) (take at runs)
+
+-- A grant of n blocks, run by run: nothing is granted for n = 0. Else, where some run has at least n blocks, the first n of the lowest such run. Where none
+-- has, the whole of the longest run, the lowest of equals, and then the others from the runs without it.
+abbrev pub IsGrant : List Run → ℕ → List Run → Type 0
+IsGrant runs n [] = n ≡ 0
+IsGrant runs n (run ∷ granted) =
+    ((1 ≤ n) × (granted ≡ []) × ((at : ℕ) × (fit : Run) × IsFirstFit runs n at fit × (run ≡ front_of fit n)))
+    ⊎ (All (λ other. other.blocks < n) runs
+    × ((at : ℕ) × IsLongest runs at run × IsGrant (remove runs at) (n - run.blocks) granted))
 
 -- The run from which a grant of n blocks begins: by first fit, or else the longest.
 abbrev pub IsNext : List Run → ℕ → ℕ → Run → Type 0

@@ -1,3 +1,2 @@
 pub mod Free
-pub mod Grants
 pub mod Inside

@@ -2,9 +2,9 @@
 ghost use Rattle.std.specs.Prelude.{◌≡◌, ◌+◌, ◌-◌, ◌≤◌, length, IfOk, OnOk, OnErr};
 ghost use Rattle.std.specs.List.{range_with_len};
 ghost use Rattle.sf_types.specs.Space.BlockRuns.{blocks_in};
+ghost use Rattle.sf_types.specs.Space.Grants.{granted_runs};
 ghost use Rattle.sf_types.specs.Rooms.{MakesRoom, GrowsWithin};
 ghost use Rattle.sf_block_space.specs.Free.{AreFreeRuns, AreOut, Gains};
-ghost use Rattle.sf_block_space.specs.Grants.{IsGrant};
 
 use crate::maximal_runs::MaximalRuns;
 use sf_types::{Mem, Runs};
@@ -65,7 +65,7 @@ impl FreeRuns {
     /// The free blocks were those that are left and those that are granted. After want of memory nothing has changed.
     pub fn grant(&mut self, n: u64) -> Mem<Runs>
         requires { n ≤ length (blocks_in self.old.held.runs) }
-        ensures granted { IfOk result (λ granted. IsGrant self.old.held.runs n granted.held) }
+        ensures granted { IfOk result (λ granted. granted.held ≡ granted_runs self.old.held.runs n) }
         ensures count { IfOk result (λ granted. length (blocks_in granted.held) ≡ n) }
         ensures out { IfOk result (λ granted. AreOut self.new.held (blocks_in granted.held)) }
         ensures left { IfOk result (λ granted. Gains self.new.held.runs self.old.held.runs granted.held) }

@@ -2,6 +2,7 @@
 #![tactic(auto)]
 
 mod free_runs;
+pub mod laws;
 mod maximal_runs;
 
 pub use free_runs::FreeRuns;

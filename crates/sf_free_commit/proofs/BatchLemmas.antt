@@ -5,8 +5,7 @@ use Rattle.std.proofs.lemmas.Bool.{cases_lt, lt-ltb, le-ltb}
 use Rattle.std.proofs.lemmas.List.{append-nil, length-append}
 use Rattle.std.proofs.lemmas.List.FromFn.{length-range_with_len}
 use Rattle.sf_types.specs.declared.run.Run.{Run}
-use Rattle.sf_types.specs.Space.BlockRuns.{blocks_in, blocks_in_run}
-use Rattle.sf_types.specs.Space.BlockRuns.{front_of, rest_of}
+use Rattle.sf_types.specs.Space.BlockRuns.{blocks_in, blocks_in_run, front_of, rest_of}
 use Rattle.sf_types.proofs.RunLemmas.{run-split}
 use Rattle.sf_free_commit.specs.Batches.{first_runs, later_runs, LeavesFirst}
 

@@ -298,10 +298,7 @@ impl Plain {
         self.commits.reserve(1)?;
         name_rows(&mut self.current, &changes)?;
         // From here on nothing wants memory.
-        match self.commits.push(part.commit()) {
-            Ok(()) => {}
-            Err(_) => unreachable!(),
-        }
+        self.commits.push_reserved(part.commit());
         apply_changes(&mut self.current, changes);
         self.locks.release_all(session);
         let count = self.commits.len() as u64;

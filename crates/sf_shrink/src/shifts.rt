@@ -1,7 +1,8 @@
 //! The plan.
-ghost use Rattle.std.specs.Prelude.{◌≡◌, ℕ, IfOk};
+ghost use Rattle.std.specs.Prelude.{◌≡◌, ℕ, map, IfOk};
+ghost use Rattle.sf_types.specs.Space.Plans.{planned_places};
 ghost use Rattle.sf_shrink.specs.declared.shifts.TheConstants.{MOST_BLOCKS};
-ghost use Rattle.sf_shrink.specs.Plans.{ArePlaced, planned, IsSafeWithoutGap};
+ghost use Rattle.sf_shrink.specs.Plans.{ArePlaced, planned, placed_at, shifted_to, IsSafeWithoutGap};
 
 use sf_types::{BirthRunsList, ContentRuns, List, Mem, Run};
 use std::alloc::Global;
@@ -25,6 +26,7 @@ pub type ShiftList = List<Shift>;
 pub fn plan(alloc: Global, places: &BirthRunsList) -> Mem<ShiftList>
     requires { ArePlaced places.now MOST_BLOCKS }
     ensures plan { IfOk result (λ shifts. shifts ≡ planned places.now) }
+    ensures rule { IfOk result (λ shifts. map shifted_to shifts ≡ planned_places (map placed_at places.now)) }
 
     // Whatever the store's capacity is.
     ensures safe { IfOk result (λ shifts. (capacity : ℕ) → ArePlaced places.now capacity → IsSafeWithoutGap places.now shifts capacity) }

@@ -4,5 +4,7 @@ pub mod Table
 pub mod Calls
 pub mod Space
 pub mod Orders
+pub mod Halves
+pub mod Play
 pub mod Rooms
 pub mod Inside

@@ -8,3 +8,5 @@ pub mod Use
 pub mod Promises
 pub mod Publications
 pub mod Placings
+pub mod Grants
+pub mod Plans

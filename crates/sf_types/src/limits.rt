@@ -41,3 +41,6 @@ pub const SESSION_LOCATORS: usize = 256;
 
 /// The most savepoints that a session has at a time.
 pub const SESSION_SAVEPOINTS: usize = 64;
+
+/// The most parked blocks that a reclaim turn of a play makes free.
+pub const RECLAIMED_BLOCKS: u64 = 64;

@@ -16,6 +16,14 @@ use Rattle.sf_types.specs.Calls.Steps.{step}
 use Rattle.sf_types.specs.Space.Promises.{promise, cancel}
 use Rattle.sf_types.specs.Space.Publications.{publish}
 
+-- An entry of a session, by its kind and its call.
+abbrev pub entry_of : ℕ → Kind → Call → Entry
+entry_of s kind c = record { token = record { session = s; kind = kind }; call = c }
+
+-- Calls of a session that end, as entries.
+abbrev pub call_entries : ℕ → List Call → List Entry
+call_entries s calls = map (entry_of s kind.Call) calls
+
 -- While no promise of the session stands, a promise is legal where its call is due, and a call where it isn't due.
 -- While one stands, only the call for which it stands and a cancel with that call are legal.
 abbrev pub IsLegalBeside : Option Promise → Bool → Kind → Call → Type 0

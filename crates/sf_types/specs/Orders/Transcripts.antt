@@ -72,14 +72,14 @@ row_line row = line (codes "row " ++ row.name ++ codes " " ++ decimal row.len ++
 -- The whole transcript: its header, the order, the replies session by session, the places, the free number, the rows
 -- and the number of commits.
 abbrev pub whole_transcript : List Token → List (List Reply) → List Place → ℕ → List RowEnd → ℕ → List ℕ
-whole_transcript order replies places free rows commit_count =
+whole_transcript order replies places free rows commits =
     line (codes "transcript 1")
     ++ order_line order
     ++ session_lines 1 replies
     ++ flat_map place_line places
     ++ line (codes "free " ++ decimal free)
     ++ flat_map row_line rows
-    ++ line (codes "commit_count " ++ decimal commit_count)
+    ++ line (codes "now " ++ decimal commits)
 
 -- The place of a birth at some runs: with its content's length and digest.
 abbrev pub place_of_birth : Table → ℕ → List Run → Place

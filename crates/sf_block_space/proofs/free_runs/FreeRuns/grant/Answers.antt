@@ -4,9 +4,10 @@ use Rattle.std.proofs.lemmas.List.FromFn.{length-range_with_len}
 use Rattle.std.proofs.lemmas.Grind.{flat_map-append}
 use Rattle.sf_types.specs.declared.run.Run.{Run}
 use Rattle.sf_types.specs.Space.BlockRuns.{blocks_in, blocks_in_run}
-use Rattle.sf_block_space.specs.Grants.{IsGrant}
+use Rattle.sf_block_space.specs.Inside.{IsGrant}
 use Rattle.sf_block_space.specs.Inside.{HandsOut, IsRoomFor}
 use Rattle.sf_block_space.proofs.GrantLemmas.{grant-step, room-step}
+use Rattle.sf_block_space.proofs.GrantRunLemmas.{grant-runs}
 use Rattle.sf_block_space.proofs.OutLemmas.{hands-more}
 use Rattle.sf_block_space.proofs.free_runs.FreeRuns.grant.Goals as goal
 
@@ -47,4 +48,5 @@ loop-rest-preserved c =
 
 pub returns-clause-granted : goal.returns-clause-granted
 returns-clause-granted c =
-    rw (← append-nil c.loop-rest.granted.held, ← c.self.view_is) (c.loop-rest.invariant.completes [] (omega (arith, c.loop-rest-test.false)))
+    let all = c.loop-rest.invariant.completes [] (omega (arith, c.loop-rest-test.false)) in
+    rw (← append-nil c.loop-rest.granted.held, ← c.self.view_is) (grant-runs _ _ _ _ c.room_for.ensures.order all)

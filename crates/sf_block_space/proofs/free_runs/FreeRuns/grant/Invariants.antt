@@ -1,7 +1,7 @@
 use Rattle.std.proofs.Common.{◌≡◌, ◌+◌, ◌≤◌, ◌++◌, List, length}
 use Rattle.sf_types.specs.declared.run.Run.{Run}
 use Rattle.sf_types.specs.Space.BlockRuns.{blocks_in}
-use Rattle.sf_block_space.specs.Grants.{IsGrant}
+use Rattle.sf_block_space.specs.Inside.{IsGrant}
 use Rattle.sf_block_space.specs.Inside.{HandsOut, IsRoomFor}
 use Rattle.sf_block_space.proofs.free_runs.FreeRuns.grant.Given as goal
 

@@ -2,13 +2,12 @@ use Rattle.std.proofs.Common.{◌≡◌, ◌+◌, ◌-◌, ◌≤◌, ◌<◌, �
 use Rattle.std.specs.Prelude.{slice_get, vec_capacity, vec_len}
 use Rattle.std.proofs.lemmas.List.{append-nil, length-set}
 use Rattle.sf_types.specs.declared.run.Run.{Run}
-use Rattle.sf_types.specs.Space.BlockRuns.{blocks_in_run}
-use Rattle.sf_types.specs.Space.BlockRuns.{front_of, rest_of}
+use Rattle.sf_types.specs.Space.BlockRuns.{blocks_in_run, front_of, rest_of}
 use Rattle.sf_block_space.specs.Free.{AreOut}
 use Rattle.sf_block_space.specs.Inside.{IsNext}
 use Rattle.sf_block_space.proofs.ChoiceLemmas.{taken-whole, taken-front}
 use Rattle.sf_block_space.proofs.TakeLemmas.{taken-changes, taken-size}
-use Rattle.sf_block_space.proofs.OrderLemmas.{run-within}
+use Rattle.sf_block_space.proofs.OrderLemmas.{run-fits}
 use Rattle.sf_block_space.proofs.maximal_runs.MaximalRuns.take_run.Goals as goal
 
 pub returns-then-from-n-clause-taken : goal.returns-then-from-n-clause-taken
@@ -46,23 +45,11 @@ returns-then-from-n-clause-handed c =
 
 pub overflow_cast-taken : goal.overflow_cast-taken
 overflow_cast-taken c =
-    let run = c.index-run.result.now in
-    let at = c.next_offset-at.result in
-    let inside : at < length c.self.inside.runs.items = search rules in
-    let small : c.self.inside.capacity < 2 ^ 32 = search rules in
-    let size = (run-within 0 c.self.inside.capacity c.self.inside.runs.items at run c.self.invariant inside).1 in
-    let here = subst (λ (r : Run). r.first + r.blocks ≤ c.self.inside.capacity) (sym c.index-run.ensures) size in
-    omega (arith, small, here, c.if-from-n.false, c.from.ensures)
+    omega (arith, c.if-from-n.false, c.from.ensures, run-fits c.self.inside.capacity c.self.inside.runs.items c.next_offset-at.result c.index-run.result.now c.self.invariant (search rules) (search rules) c.index-run.ensures)
 
 pub overflow_add-run : goal.overflow_add-run
 overflow_add-run c =
-    let run = c.index-run.result.now in
-    let at = c.next_offset-at.result in
-    let inside : at < length c.self.inside.runs.items = search rules in
-    let small : c.self.inside.capacity < 2 ^ 32 = search rules in
-    let size = (run-within 0 c.self.inside.capacity c.self.inside.runs.items at run c.self.invariant inside).1 in
-    let here = subst (λ (r : Run). r.first + r.blocks ≤ c.self.inside.capacity) (sym c.index-run.ensures) size in
-    omega (arith, small, here, c.if-from-n.false, c.from.ensures)
+    omega (arith, c.if-from-n.false, c.from.ensures, run-fits c.self.inside.capacity c.self.inside.runs.items c.next_offset-at.result c.index-run.result.now c.self.invariant (search rules) (search rules) c.index-run.ensures)
 
 pub returns-clause-taken : goal.returns-clause-taken
 returns-clause-taken c =

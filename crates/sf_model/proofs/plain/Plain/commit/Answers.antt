@@ -20,7 +20,7 @@ invariant_of-self-2 c =
     let old = c.self.inside.commits.items in
     let working = c.index_mut-part.result.now.working in
     let changes : c.in_ok-changes.changes.items ≡ working = c.in_ok-changes.ensures ∙ c.working.ensures in
-    let commits : c.push.new.self.items ≡ old ++ working ∷ [] = c.in-Ok.ensures.items ∙ ap (λ (cs : List Rows). cs ++ c.commit.result ∷ []) c.reserve.ensures.items ∙ ap (λ (w : Rows). old ++ w ∷ []) c.commit.ensures.working in
+    let commits : c.push_reserved.new.self.items ≡ old ++ working ∷ [] = c.push_reserved.ensures.items ∙ ap (λ (cs : List Rows). cs ++ c.commit.result ∷ []) c.reserve.ensures.items ∙ ap (λ (w : Rows). old ++ w ∷ []) c.commit.ensures.working in
     let places = holds_after c.self.inside.current c.name_rows.new.rows old c.name_rows.ensures.same c.self.invariant in
     rw commits (holds_more c.name_rows.new.rows c.apply_changes.new.rows old working places (λ q. c.apply_changes.ensures q ∙ ap (λ (w : Rows). later_change (get c.name_rows.new.rows q) (get w q)) changes))
 
@@ -32,7 +32,7 @@ returns-clause-ok c =
     let has = rw (← c.self.view_is) at c.requires in
     let part = session_at t s c.index_mut-part.result.now has c.index_mut-part.ensures.value in
     let opened = rw (c.part.ensures, ← c.self.view_is) at (sym c.is_open.ensures.is_open ∙ c.if-not-is_open.false) in
-    let commits : c.push.new.self.items ≡ old ++ (session_of t s).working ∷ [] = c.in-Ok.ensures.items ∙ ap (λ (cs : List Rows). cs ++ c.commit.result ∷ []) c.reserve.ensures.items ∙ ap (λ (w : Rows). old ++ w ∷ []) (c.commit.ensures.working ∙ ap (λ p. p.working) part) in
-    let count : c.len-count.result ≡ commit_count t + 1 = c.len-count.ensures ∙ c.in-Ok.ensures.len ∙ ap (λ n. n + 1) (c.reserve.ensures.len ∙ c.self.inside.commits.ok.0) in
+    let commits : c.push_reserved.new.self.items ≡ old ++ (session_of t s).working ∷ [] = c.push_reserved.ensures.items ∙ ap (λ (cs : List Rows). cs ++ c.commit.result ∷ []) c.reserve.ensures.items ∙ ap (λ (w : Rows). old ++ w ∷ []) (c.commit.ensures.working ∙ ap (λ p. p.working) part) in
+    let count : c.len-count.result ≡ commit_count t + 1 = c.len-count.ensures ∙ c.push_reserved.ensures.len ∙ ap (λ n. n + 1) (c.reserve.ensures.len ∙ c.self.inside.commits.ok.0) in
     rw (← c.self.view_is)
-    (commit_done t s c.len-count.result c.floor_after-self-inside.result c.push.new.self.items c.release_all.new.self c.commit.new.self opened commits count (c.floor_after-self-inside.ensures ∙ ap (floor_after t.options t.floor) count) c.release_all.ensures (c.commit.ensures.part ∙ ap after_commit part))
+    (commit_done t s c.len-count.result c.floor_after-self-inside.result c.push_reserved.new.self.items c.release_all.new.self c.commit.new.self opened commits count (c.floor_after-self-inside.ensures ∙ ap (floor_after t.options t.floor) count) c.release_all.ensures (c.commit.ensures.part ∙ ap after_commit part))
