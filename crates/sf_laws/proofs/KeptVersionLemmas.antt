@@ -1,5 +1,5 @@
 -- Which commit gave a row its value.
-use Rattle.std.proofs.Common.{◌≡◌, ℕ, suc, ◌+◌, ◌-◌, ◌≤◌, ◌<◌, true, false, ◌||◌, List, [], ◌∷◌, ◌++◌, length, take, drop, take-add, get_or, Option, Some, None, refl, sym, ap, ◌∙◌, ◌⊎◌, inl, inr, arith}
+use Rattle.std.proofs.Common.{◌≡◌, ℕ, suc, ◌+◌, ◌-◌, ◌≤◌, ◌<◌, true, false, List, [], ◌∷◌, ◌++◌, length, take, drop, take-add, get_or, Option, Some, None, refl, sym, ap, ◌∙◌, ◌⊎◌, inl, inr, arith}
 use Rattle.std.specs.Prelude.{nat_lt, is_none}
 use Rattle.std.proofs.lemmas.Bool.{cases_lt}
 use Rattle.std.proofs.lemmas.Bool.Decides.{nat_tests}
@@ -55,8 +55,8 @@ kept-is t row n k le high (inr low) silent =
     let front = front-none (drop k (take t.floor t.commits)) (take (n - t.floor) (drop t.floor t.commits)) row (ap (λ (cs : List Rows). last_change cs row) (sym parts) ∙ silent) in
     or-true (nat_lt t.floor k) (is_none (last_change (drop k (take t.floor t.commits)) row)) (ap (λ (o : Option (Option Value)). is_none o) front)
 
-pub kept_of : (t : Table) (row : List ℕ) (n : ℕ) (v : Value) → IsValueSinceFloor t row n v → (k : ℕ) × IsKeptVersion t row k v
-kept_of t row n v since =
+pub kept_version_of : (t : Table) (row : List ℕ) (n : ℕ) (v : Value) → IsValueSinceFloor t row n v → (k : ℕ) × IsKeptVersion t row k v
+kept_version_of t row n v since =
     let found = last_of (take n t.commits) row (Some v) (some-said (last_change (take n t.commits) row) v since.is) in
     let k = found.0 in
     let last = found.1 in

@@ -1,29 +1,63 @@
-mod ChangeLemmas
-mod CommitLemmas
-mod DistinctStepLemmas
-mod EachLemmas
-mod EntryCaseLemmas
-mod EntryLemmas
-mod GivenBirthLemmas
-mod HeldEditLemmas
-mod HeldLemmas
-mod HeldStepLemmas
-mod KeptVersionLemmas
-mod LeastLemmas
-mod LockLemmas
-mod LockStepLemmas
-mod NewBirthLemmas
-mod OptionLemmas
-mod PositionLemmas
-mod PromiseLemmas
-mod PublishCaseLemmas
-mod ReachLemmas
-mod ReachStepLemmas
-mod SettleLemmas
-mod StepCaseLemmas
-mod StretchLemmas
-mod SumLemmas
-mod SwapLemmas
-mod TrueStepLemmas
-mod UseStepLemmas
-mod WantedLemmas
+pub mod AskLemmas
+pub mod BlockRunLemmas
+pub mod BlockSumLemmas
+pub mod ChangeLemmas
+pub mod CommitLemmas
+pub mod ContentSizeLemmas
+pub mod CutBirthLemmas
+pub mod DistinctStepLemmas
+pub mod EachLemmas
+pub mod EndedLemmas
+pub mod EntryCaseLemmas
+pub mod EntryLemmas
+pub mod FewFreshLemmas
+pub mod FitLemmas
+pub mod FloorLemmas
+pub mod FlushLemmas
+pub mod GivenBirthLemmas
+pub mod HalfLemmas
+pub mod HeldEditLemmas
+pub mod HeldLemmas
+pub mod HeldStepLemmas
+pub mod KeptVersionLemmas
+pub mod LeastFloorLemmas
+pub mod LeastLemmas
+pub mod LockLemmas
+pub mod LockStepLemmas
+pub mod NameLemmas
+pub mod NewBirthLemmas
+pub mod NewCutLemmas
+pub mod OccurrenceLemmas
+pub mod OptionLemmas
+pub mod OrderlyLemmas
+pub mod OwnLemmas
+pub mod OwnRunLemmas
+pub mod PlacingLemmas
+pub mod PlayLemmas
+pub mod PlayTranscriptLemmas
+pub mod PositionLemmas
+pub mod PromiseLemmas
+pub mod PublicationLemmas
+pub mod PublishCaseLemmas
+pub mod PublishedReachLemmas
+pub mod ReachLemmas
+pub mod ReachStepLemmas
+pub mod RisingLockLemmas
+pub mod RoundLemmas
+pub mod SessionBirthLemmas
+pub mod SettleLemmas
+pub mod SettledBirthLemmas
+pub mod SettledFlushLemmas
+pub mod ShrinkLemmas
+pub mod SpaceLemmas
+pub mod StageLemmas
+pub mod StepCaseLemmas
+pub mod StretchLemmas
+pub mod SumLemmas
+pub mod SwapLemmas
+pub mod TrueStepLemmas
+pub mod TurnLemmas
+pub mod TurnMoveLemmas
+pub mod UseStepLemmas
+pub mod VerdictLemmas
+pub mod WantedLemmas

@@ -32,7 +32,7 @@ one_holder locks r s row held_r held_s =
     let second = holder_is locks s row held_s in
     cc
 
-busy_where : (locks : NameMap ℕ) (r s : ℕ) (row : List ℕ) → get locks row ≡ Some r → (r ≡ s → ⊥) → is_busy locks s row ≡ true
+pub busy_where : (locks : NameMap ℕ) (r s : ℕ) (row : List ℕ) → get locks row ≡ Some r → (r ≡ s → ⊥) → is_busy locks s row ≡ true
 busy_where locks r s row is apart = rw is (rw (other_number r s apart) refl)
 
 -- a lock that is taken

@@ -31,7 +31,7 @@ count-where count contents reached cut le =
     let on = goes_on_with contents reached cut in
     omega (arith, le, ap length on.parts, length-append contents on.more)
 
-new-after : (old : List ℕ) (count : ℕ) (contents : List Content) (reached : List ℕ) (of : List Cut) → count ≤ length contents → Each (IsOldOrNew old count) reached → Each (IsOldOrNew old count) (reached_after contents reached of)
+pub new-after : (old : List ℕ) (count : ℕ) (contents : List Content) (reached : List ℕ) (of : List Cut) → count ≤ length contents → Each (IsOldOrNew old count) reached → Each (IsOldOrNew old count) (reached_after contents reached of)
 new-after old count contents reached [] le all = all
 new-after old count contents reached (cut ∷ rest) le all =
     new-after old count (contents_with contents reached cut) (reached_with contents reached cut) rest (count-where count contents reached cut le)

@@ -128,8 +128,8 @@ or_none : (b : Bool) (o : Option (Option Value)) → (b ≡ true → o ≡ None)
 or_none true o is = rw (is refl) refl
 or_none false o is = refl
 
-pub kept_is : (t : Table) (n : ℕ) (cs : List Rows) (row : List ℕ) → drop n t.commits ≡ cs → is_kept t row n ≡ is_none (last_change (take (t.floor - n) cs) row)
-kept_is t n cs row at =
+pub kept_by_later : (t : Table) (n : ℕ) (cs : List Rows) (row : List ℕ) → drop n t.commits ≡ cs → is_kept t row n ≡ is_none (last_change (take (t.floor - n) cs) row)
+kept_by_later t n cs row at =
     let later : drop n (take t.floor t.commits) ≡ take (t.floor - n) cs = drop_of_take n t.floor t.commits ∙ ap (take (t.floor - n)) at in
     ap (λ us. nat_lt t.floor n || is_none (last_change us row)) later
     ∙ or_none (nat_lt t.floor n) (last_change (take (t.floor - n) cs) row) (λ lt. let gone : t.floor - n ≡ 0 = grind (arith, nat_tests) in ap (λ k. last_change (take k cs) row) gone)
@@ -160,7 +160,7 @@ each-versions P t k (c ∷ cs) at all =
     let here = at_drop t.commits k c cs at in
     let first : slice_index_or t.commits (k + 1 - 1) [] ≡ c = ap (λ n. slice_index_or t.commits n []) (last_off k) ∙ get_or_from_slice_get t.commits k c [] here.0 in
     let less : t.floor - k - 1 ≡ t.floor - (k + 1) = omega arith in
-    let kept : (row : List ℕ) → is_kept t row (k + 1) ≡ is_none (last_change (take (t.floor - k - 1) cs) row) = λ row. kept_is t (k + 1) cs row here.1 ∙ ap (λ n. is_none (last_change (take n cs) row)) (sym less) in
+    let kept : (row : List ℕ) → is_kept t row (k + 1) ≡ is_none (last_change (take (t.floor - k - 1) cs) row) = λ row. kept_by_later t (k + 1) cs row here.1 ∙ ap (λ n. is_none (last_change (take n cs) row)) (sym less) in
     each-append (OfHolding P) (filter_map (version_holding t (k + 1)) (slice_index_or t.commits (k + 1 - 1) [])) (versions_from t (k + 1 + 1) (length cs))
     (subst (λ x. Each (OfHolding P) (filter_map (version_holding t (k + 1)) x)) (sym first)
     (each-filter_map (OfHolding P) (version_holding t (k + 1)) c (each_weaker (OfKept (OfBirth P) (take (t.floor - k - 1) cs)) (λ e. IfSome (version_holding t (k + 1) e) (OfHolding P)) c (λ e is. of_version P t (k + 1) (take (t.floor - k - 1) cs) e kept is) all.0)))
@@ -172,7 +172,7 @@ each_from_versions P t k (c ∷ cs) at all =
     let here = at_drop t.commits k c cs at in
     let first : slice_index_or t.commits (k + 1 - 1) [] ≡ c = ap (λ n. slice_index_or t.commits n []) (last_off k) ∙ get_or_from_slice_get t.commits k c [] here.0 in
     let less : t.floor - k - 1 ≡ t.floor - (k + 1) = omega arith in
-    let kept : (row : List ℕ) → is_kept t row (k + 1) ≡ is_none (last_change (take (t.floor - k - 1) cs) row) = λ row. kept_is t (k + 1) cs row here.1 ∙ ap (λ n. is_none (last_change (take n cs) row)) (sym less) in
+    let kept : (row : List ℕ) → is_kept t row (k + 1) ≡ is_none (last_change (take (t.floor - k - 1) cs) row) = λ row. kept_by_later t (k + 1) cs row here.1 ∙ ap (λ n. is_none (last_change (take n cs) row)) (sym less) in
     let front = each_left (OfHolding P) (filter_map (version_holding t (k + 1)) (slice_index_or t.commits (k + 1 - 1) [])) (versions_from t (k + 1 + 1) (length cs)) all in
     let back = each_right (OfHolding P) (filter_map (version_holding t (k + 1)) (slice_index_or t.commits (k + 1 - 1) [])) (versions_from t (k + 1 + 1) (length cs)) all in (
       each_weaker (λ e. IfSome (version_holding t (k + 1) e) (OfHolding P)) (OfKept (OfBirth P) (take (t.floor - k - 1) cs)) c (λ e is. from_version P t (k + 1) (take (t.floor - k - 1) cs) e kept is)

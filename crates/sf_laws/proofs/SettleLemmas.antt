@@ -74,8 +74,8 @@ settled_holds M un (Stretch run ∷ segments) births all paired =
     (settled_run M un contents (take (length contents) births) (paired_front (OfStored M) contents rest births paired))
     (settled_holds M un segments (drop (length contents) births) all.1 (paired_rest (OfStored M) contents rest births paired))
 
-pub settled_value : (M : Marked → Type 0) → OfUnstored M → (v : Value) (births : List ℕ) → Each M v.bytes → Paired (OfStored M) (contents_of_value v) births → Each M (settle_value v births).bytes
-settled_value M un v births all paired = settled_holds M un (segments_of v.bytes) births (of_segments M v.bytes all) paired
+pub settled_value_holds : (M : Marked → Type 0) → OfUnstored M → (v : Value) (births : List ℕ) → Each M v.bytes → Paired (OfStored M) (contents_of_value v) births → Each M (settle_value v births).bytes
+settled_value_holds M un v births all paired = settled_holds M un (segments_of v.bytes) births (of_segments M v.bytes all) paired
 
 count_of : (options : Options) (v : Value) → length (cuts_of_value options v) ≡ length (contents_of_value v)
 count_of options v = length-map (contents_of_value v) _
@@ -88,6 +88,6 @@ settled_rows M un options ((name, Some v) ∷ rows) births all paired =
     let rest = paired_rest (OfCut M) (cuts_of_value options v) (cuts options rows) births paired in
     let own' : Paired (OfCut M) (cuts_of_value options v) (take (length (contents_of_value v)) births) = subst (λ n. Paired (OfCut M) (cuts_of_value options v) (take n births)) (count_of options v) own in
     let rest' : Paired (OfCut M) (cuts options rows) (drop (length (contents_of_value v)) births) = subst (λ n. Paired (OfCut M) (cuts options rows) (drop n births)) (count_of options v) rest in (
-      settled_value M un v (take (length (contents_of_value v)) births) all.0 (paired_from_map (OfCut M) _ (contents_of_value v) (take (length (contents_of_value v)) births) own'),
+      settled_value_holds M un v (take (length (contents_of_value v)) births) all.0 (paired_from_map (OfCut M) _ (contents_of_value v) (take (length (contents_of_value v)) births) own'),
       settled_rows M un options rows (drop (length (contents_of_value v)) births) all.1 rest',
     )

@@ -1,5 +1,5 @@
 -- One case analysis over the calls: what a call that flushes nothing makes of a table.
-use Rattle.std.proofs.Common.{◌≡◌, ℕ, ◌+◌, ◌-◌, ◌≤◌, Bool, true, false, cond, IsTrue, List, [], ◌∷◌, ◌++◌, Option, Some, None, refl, sym, subst, ◌∙◌}
+use Rattle.std.proofs.Common.{◌≡◌, ℕ, ◌+◌, ◌≤◌, Bool, true, false, cond, IsTrue, List, [], ◌∷◌, ◌++◌, Option, Some, None, refl, sym, subst}
 use Rattle.std.specs.Prelude.{is_some, is_none, unwrap_or, nat_lt, not, bytes_eq}
 use Rattle.sf_types.proofs.RefusalLemmas.{same_part}
 use Rattle.sf_types.specs.declared.call.Call.{Call}
@@ -43,11 +43,11 @@ pub record StepCases (t : Table) (s : ℕ) (Q : Table → Type 0) : Type 0 where
   pub rolled_back : Q (record (with_session t s (after_rollback (session_of t s))) { locks = without_locks t.locks s })
   pub ended : Q (record (with_session t s (after_end (session_of t s))) { locks = without_locks t.locks s })
 
-refused_table : (Q : Table → Type 0) (o : Option Fault) (t : Table) (done : Table × Reply) → Q t → (o ≡ None → Q done.0) → Q (refusal_or o t done).0
+pub refused_table : (Q : Table → Type 0) (o : Option Fault) (t : Table) (done : Table × Reply) → Q t → (o ≡ None → Q done.0) → Q (refusal_or o t done).0
 refused_table Q None t done before after = after refl
 refused_table Q (Some f) t done before after = before
 
-refused_part : (Q : Session → Type 0) (o : Option Fault) (p : Session) (done : Session × Reply) → Q p → (o ≡ None → Q done.0) → Q (refusal_or o p done).0
+pub refused_part : (Q : Session → Type 0) (o : Option Fault) (p : Session) (done : Session × Reply) → Q p → (o ≡ None → Q done.0) → Q (refusal_or o p done).0
 refused_part Q None p done before after = after refl
 refused_part Q (Some f) p done before after = before
 
@@ -79,16 +79,16 @@ held_where_written p is_held value name c none =
     (third (locator p name).is_read_only (spans_transactions p (locator p name)) (not is_held) (is_none (row_value p value (locator p name).row)) fault.ReadOnly fault.SpansTransactions fault.RowNotLocked fault.NoSuchRow
     (passed_later (locator_refusals p (names_in name c)) _ all))
 
-first_false : (a : Bool) (f : Fault) (ts : List (Bool × Fault)) → first_refusal ((a, f) ∷ ts) ≡ None → a ≡ false
+pub first_false : (a : Bool) (f : Fault) (ts : List (Bool × Fault)) → first_refusal ((a, f) ∷ ts) ≡ None → a ≡ false
 first_false a f ts none = (passed a f ts none).0
 
-second_false : (a b : Bool) (f g : Fault) (ts : List (Bool × Fault)) → first_refusal ((a, f) ∷ (b, g) ∷ ts) ≡ None → b ≡ false
+pub second_false : (a b : Bool) (f g : Fault) (ts : List (Bool × Fault)) → first_refusal ((a, f) ∷ (b, g) ∷ ts) ≡ None → b ≡ false
 second_false a b f g ts none = first_false b g ts (passed a f ((b, g) ∷ ts) none).1
 
-third_false : (a b c : Bool) (f g h : Fault) (ts : List (Bool × Fault)) → first_refusal ((a, f) ∷ (b, g) ∷ (c, h) ∷ ts) ≡ None → c ≡ false
+pub third_false : (a b c : Bool) (f g h : Fault) (ts : List (Bool × Fault)) → first_refusal ((a, f) ∷ (b, g) ∷ (c, h) ∷ ts) ≡ None → c ≡ false
 third_false a b c f g h ts none = second_false b c g h ts (passed a f ((b, g) ∷ (c, h) ∷ ts) none).1
 
-some_named : (o : Option Savepoint) → is_none o ≡ false → o ≡ Some (unwrap_or o no_savepoint)
+pub some_named : (o : Option Savepoint) → is_none o ≡ false → o ≡ Some (unwrap_or o no_savepoint)
 some_named None is = absurd cc
 some_named (Some x) is = refl
 

@@ -18,7 +18,7 @@ below_with a b (c ∷ bs) lt below =
       ]
     ]
 
-below_more : (a b : ℕ) (bs : List ℕ) → a < b → IsBelowAll b bs → IsBelowAll a bs
+pub below_more : (a b : ℕ) (bs : List ℕ) → a < b → IsBelowAll b bs → IsBelowAll a bs
 below_more a b [] lt below = tt
 below_more a b (c ∷ bs) lt below = (omega (arith, below.0), below_more a b bs lt below.1)
 
@@ -38,17 +38,17 @@ rising_rises [] = tt
 rising_rises (b ∷ bs) = with_birth_rises b (rising_births bs) (rising_rises bs)
 
 -- an element is the first or one of the rest
-first_or_rest : (b : ℕ) (bs : List ℕ) (a : ℕ) → Contains (b ∷ bs) a → (a ≡ b) ⊎ Contains bs a
+pub first_or_rest : (b : ℕ) (bs : List ℕ) (a : ℕ) → Contains (b ∷ bs) a → (a ≡ b) ⊎ Contains bs a
 first_or_rest b bs a has =
     each_contained (λ x. (x ≡ b) ⊎ Contains bs x) (b ∷ bs) a
     (inl refl, each_weaker (Contains bs) (λ x. (x ≡ b) ⊎ Contains bs x) bs (λ x is. inr is) (each_itself bs)) has
 
-each_below : (b : ℕ) (bs : List ℕ) → IsBelowAll b bs → Each (λ x. b < x) bs
+pub each_below : (b : ℕ) (bs : List ℕ) → IsBelowAll b bs → Each (λ x. b < x) bs
 each_below b [] below = tt
 each_below b (c ∷ bs) below = (below.0, each_below b bs below.1)
 
 -- what stands in a list and isn't its first stands in the rest
-in_rest : (b : ℕ) (bs xs : List ℕ) → IsBelowAll b xs → Each (Contains (b ∷ bs)) xs → Each (Contains bs) xs
+pub in_rest : (b : ℕ) (bs xs : List ℕ) → IsBelowAll b xs → Each (Contains (b ∷ bs)) xs → Each (Contains bs) xs
 in_rest b bs [] below all = tt
 in_rest b bs (x ∷ xs) below all =
     (⊎_elim (λ (same : x ≡ b). absurd (omega (arith, below.0))) (λ (rest : Contains bs x). rest) (first_or_rest b bs x all.0), in_rest b bs xs below.1 all.1)

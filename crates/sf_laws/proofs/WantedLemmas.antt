@@ -62,7 +62,7 @@ found_on before after fewer more cut on given within is =
       bytes = f.bytes;
     })
 
-sum_tail : (b : Bool) (cut : Cut) (cuts : List Cut) → sum_by cut_blocks cuts ≤ sum_by cut_blocks (cond b cuts (cut ∷ cuts))
+pub sum_tail : (b : Bool) (cut : Cut) (cuts : List Cut) → sum_by cut_blocks cuts ≤ sum_by cut_blocks (cond b cuts (cut ∷ cuts))
 sum_tail true cut cuts = omega arith
 sum_tail false cut cuts = rw (sum_by-cons cut_blocks cut cuts) (omega arith)
 
@@ -127,7 +127,7 @@ rises_after contents reached [] given rises = rises
 rises_after contents reached (cut ∷ rest) given rises =
     rises_after (contents_with contents reached cut) (reached_with contents reached cut) rest (given_with contents reached cut given) (rises_with contents reached cut given rises)
 
-sharing_pair : (cut other : Cut) → is_equal_sharing cut other ≡ true → (cut.is_sharing ≡ true) × (other.is_sharing ≡ true) × (cut.bytes ≡ other.bytes)
+pub sharing_pair : (cut other : Cut) → is_equal_sharing cut other ≡ true → (cut.is_sharing ≡ true) × (other.is_sharing ≡ true) × (cut.bytes ≡ other.bytes)
 sharing_pair cut other is = go cut.is_sharing other.is_sharing refl refl is
   where
     go : (a b : Bool) → cut.is_sharing ≡ a → other.is_sharing ≡ b → (a && b && bytes_eq cut.bytes other.bytes) ≡ true → (cut.is_sharing ≡ true) × (other.is_sharing ≡ true) × (cut.bytes ≡ other.bytes)
@@ -143,10 +143,10 @@ found_equal contents reached cut other same is =
     is_found_from contents reached cut b (record { sharing = pair.0; within = f.within; content = f.content; at = f.at; shared = f.shared; bytes = f.bytes ∙ sym pair.2 })
 
 -- The contents and the births after one more cut.
-abbrev more_contents : List Content → Cut → List Content
+abbrev pub more_contents : List Content → Cut → List Content
 more_contents contents cut = contents ++ content_of_cut cut ∷ []
 
-abbrev more_reached : List Content → List ℕ → List ℕ
+abbrev pub more_reached : List Content → List ℕ → List ℕ
 more_reached contents reached = reached ++ (length contents + 1) ∷ []
 
 last_content : (contents : List Content) (cut : Cut) → content_of (more_contents contents cut) (length contents + 1) ≡ Some (content_of_cut cut)

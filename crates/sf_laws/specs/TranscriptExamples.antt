@@ -3,16 +3,9 @@ use Rattle.std.specs.Prelude.{ℕ, List, [], ◌∷◌, ◌++◌, codes}
 use Rattle.sf_types.specs.declared.call.Call.{Call}
 use Rattle.sf_types.specs.declared.call.Call.TheVariants as call
 use Rattle.sf_types.specs.declared.history.Entry.{Entry}
-use Rattle.sf_types.specs.declared.history.Kind.{Kind}
-use Rattle.sf_types.specs.declared.history.Kind.TheVariants as kind
-use Rattle.sf_types.specs.declared.reply.Reply.TheVariants as reply
-use Rattle.sf_types.specs.Orders.Transcripts.{whole_transcript}
+use Rattle.hex.specs.Hex.{encode_lower}
 use Rattle.sha2.specs.Sha256.{sha256}
-use Rattle.sf_types.specs.declared.history.Token.{Token}
 use Rattle.sf_laws.specs.Histories.{calls, flushes}
-
-abbrev token : Kind → Token
-token k = record { session = 1; kind = k }
 
 -- The first path: an object of three bytes is made, read and committed.
 abbrev pub first_calls : List Call
@@ -38,15 +31,24 @@ first_history =
     ++ flushes call.Commit
     ++ calls (call.End ∷ [])
 
--- The transcript of the first path: the commit's promise is marked in the order, the content stands in the first block,
--- and the object of the row a has three bytes.
+-- The digest of the object's three bytes, in hex.
+abbrev sum_of_abc : List ℕ
+sum_of_abc = encode_lower (sha256 (codes "abc"))
+
+-- The transcript of the first path, line by line: the commit's promise is marked in the order, the content stands in the first
+-- block, and the object of the row a has three bytes. A digest doesn't unfold; all else is written out.
 abbrev pub first_transcript : List ℕ
-first_transcript = whole_transcript
-    (token kind.Call ∷ token kind.Call ∷ token kind.Call ∷ token kind.Call ∷ token kind.Call
-    ∷ token kind.Promise ∷ token kind.Call ∷ token kind.Call ∷ [])
-    ((reply.Done ∷ reply.Done ∷ reply.Done ∷ reply.Number 3 ∷ reply.Bytes (codes "abc") ∷ reply.Committed 1
-    ∷ reply.Ended ∷ []) ∷ [])
-    (record { birth = 1; len = 3; sum = sha256 (codes "abc"); runs = record { first = 0; blocks = 1 } ∷ [] } ∷ [])
-    1023
-    (record { name = codes "a"; len = 3; sum = sha256 (codes "abc") } ∷ [])
-    1
+first_transcript =
+    codes "transcript 1" ++ 10
+    ∷ codes "order 1 1 1 1 1 1+ 1 1" ++ 10
+    ∷ codes "1.1 ok" ++ 10
+    ∷ codes "1.2 ok" ++ 10
+    ∷ codes "1.3 ok" ++ 10
+    ∷ codes "1.4 3" ++ 10
+    ∷ codes "1.5 x616263" ++ 10
+    ∷ codes "1.6 commit 1" ++ 10
+    ∷ codes "1.7 end" ++ 10
+    ∷ codes "place 1 3 " ++ sum_of_abc ++ codes " 0+1" ++ 10
+    ∷ codes "free 1023" ++ 10
+    ∷ codes "row a 3 " ++ sum_of_abc ++ 10
+    ∷ codes "now 1" ++ 10 ∷ []

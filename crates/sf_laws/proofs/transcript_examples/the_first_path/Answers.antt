@@ -1,5 +1,10 @@
-use Rattle.std.proofs.Common.{◌≡◌, ◌<◌, [], ◌∷◌, length, map, rules, refl, arith}
+use Rattle.std.proofs.Common.{◌≡◌, ◌<◌, ℕ, List, [], ◌∷◌, ◌++◌, append_assoc, length, map, rules, refl, sym, ap, arith}
+use Rattle.std.specs.Prelude.{codes}
+use Rattle.std.proofs.lemmas.List.{append-nil}
+use Rattle.std.specs.Fmt.{digits}
 use Rattle.std.proofs.lemmas.List.Elements.{All-nil, All-cons}
+use Rattle.hex.specs.Hex.{encode_lower, encode_with}
+use Rattle.sha2.specs.Sha256.{sha256}
 use Rattle.sf_types.specs.declared.place.Place.{Place}
 use Rattle.sf_types.specs.Limits.{standard_options}
 use Rattle.sf_types.specs.Table.Parts.{Table, opening_table}
@@ -50,7 +55,28 @@ safe-is = record {
   once = λ i j d less within. absurd (omega (arith, less, within));
 }
 
+-- the lines up to the place's digest
+abbrev front : List ℕ
+front =
+    codes "transcript 1" ++ 10
+    ∷ codes "order 1 1 1 1 1 1+ 1 1" ++ 10
+    ∷ codes "1.1 ok" ++ 10
+    ∷ codes "1.2 ok" ++ 10
+    ∷ codes "1.3 ok" ++ 10
+    ∷ codes "1.4 3" ++ 10
+    ∷ codes "1.5 x616263" ++ 10
+    ∷ codes "1.6 commit 1" ++ 10
+    ∷ codes "1.7 end" ++ 10
+    ∷ codes "place 1 3 "
+
+-- the lines from there on, joined as the transcript joins them, and as they are written out
+joined : (sum space runs end free row now : List ℕ)
+    → ((((((sum ++ space) ++ runs) ++ end) ++ []) ++ (free ++ end)) ++ (((row ++ sum) ++ end) ++ [])) ++ (now ++ end)
+    ≡ ((((((sum ++ (space ++ runs)) ++ (end ++ free)) ++ (end ++ row)) ++ sum) ++ (end ++ now)) ++ end)
+joined sum space runs end free row now = simp (append_assoc, append-nil)
+
 pub returns-clause-right : goal.returns-clause-right
+unfolding digits encode_with
 returns-clause-right c = record {
   order = map (λ e. e.token) first_history;
   whole = whole-is;
@@ -58,5 +84,6 @@ returns-clause-right c = record {
   contents = All-cons IsTold place [] refl (All-nil IsTold);
   runs = All-cons HasRuns place [] (omega arith) (All-nil HasRuns);
   safe = safe-is;
-  text = refl;
+  text = sym (ap (λ (xs : List ℕ). front ++ xs)
+      (joined (encode_lower (sha256 (codes "abc"))) (codes " ") (codes "0+1") (10 ∷ []) (codes "free 1023") (codes "row a 3 ") (codes "now 1")));
 }
