@@ -1,29 +1,33 @@
--- A form that is built and within the limits may follow.
-use Rattle.std.proofs.Common.{◌≡◌, ℕ, ◌≤◌, Bool, true, false, cond, ◌&&◌, leb, List, Option, Some, None, Ok, refl, subst, arith}
+-- A form that is played and within the limits may follow.
+use Rattle.std.proofs.Common.{◌≡◌, ℕ, ◌≤◌, Bool, true, false, cond, ◌&&◌, leb, List, [], ◌∷◌, Option, Some, None, refl, subst, arith}
 use Rattle.std.specs.Prelude.{codes}
-use Rattle.std.proofs.lemmas.Bool.{and_parts, leb-true}
+use Rattle.std.specs.List.{list_all}
+use Rattle.std.proofs.lemmas.Bool.{and_parts, and_from, leb-true, le-leb}
 use Rattle.std.proofs.lemmas.Option.{cond_some}
 use Rattle.sf_types.specs.declared.call.Call.{Call}
 use Rattle.sf_types.specs.declared.call.Call.TheVariants as calls
 use Rattle.sf_types.proofs.BoolLemmas.{not_not}
-use Rattle.sf_script.specs.declared.call.PayloadCall.{PayloadCall}
-use Rattle.sf_script.specs.declared.call.PayloadCall.TheVariants as wants
+use Rattle.sf_script_calls.specs.declared.call.PayloadCall.{PayloadCall}
+use Rattle.sf_script_calls.specs.declared.call.PayloadCall.TheVariants as wants
+use Rattle.sf_script_calls.specs.CallTable.{call_form}
+use Rattle.sf_script_calls.specs.Calls.{CallForm, Plain, WithPayload, call_with, spelled_call}
+use Rattle.sf_script_calls.specs.Numbers.{number_of}
+use Rattle.sf_script_calls.specs.Payloads.{Payload, Text, Hex, Copies, bytes_of}
+use Rattle.sf_script_calls.specs.Reads.{◌>>=◌}
+use Rattle.sf_script_calls.specs.Words.{word_at, first_word, is_word}
+use Rattle.sf_script.specs.declared.fault.Reason.TheVariants.{Later, Limit}
 use Rattle.sf_script.specs.declared.reading.Reading.{Reading}
 use Rattle.sf_script.specs.declared.reading.Reading.TheVariants as reads
-use Rattle.sf_script.specs.CallLines.{call_form}
-use Rattle.sf_script.specs.Calls.{CallForm, Plain, WithPayload, call_with, spelled_call}
-use Rattle.sf_script.specs.Gives.{◌>>=◌}
+use Rattle.sf_script.specs.declared.turn.Turn.{Turn}
+use Rattle.sf_script.specs.declared.turn.Turn.TheVariants as turn_kinds
+use Rattle.sf_script.specs.Inside.Readings.{form_reason, CanFollow, IsOfSessions, IsFormAfter}
 use Rattle.sf_script.specs.LineForms.{LineForm, HeaderLine, SetsOption, SessionsLine, CallLine, ScheduleLine, form_of, schedule_line, call_line}
-use Rattle.sf_script.specs.Provisional.Forms.{is_built_plain, is_built_call}
-use Rattle.sf_script.specs.Numbers.{number_of}
+use Rattle.sf_script.specs.OptionLines.{is_option_in_range}
+use Rattle.sf_script.specs.Parts.{names_session}
 use Rattle.sf_script.specs.Provisional.Calls.{can_stand}
-use Rattle.sf_script.specs.Payloads.{Payload, Text, Hex, Copies, bytes_of}
-use Rattle.sf_script.specs.Reasons.{form_passes_limit}
-use Rattle.sf_script.specs.Provisional.Forms.{form_or_later}
-use Rattle.sf_script.specs.Inside.Readings.{CanFollow}
-use Rattle.sf_script.specs.Schedules.{session_number, session_of, ends_with_colon}
-use Rattle.sf_script.specs.Words.{word_at, first_word, is_word}
-use Rattle.sf_script.proofs.StepLemmas.{built_ok}
+use Rattle.sf_script.specs.Provisional.Lines.{is_played_plain, is_played_call, is_later}
+use Rattle.sf_script.specs.Reasons.{first_reason, form_passes_limit}
+use Rattle.sf_script.specs.Schedules.{session_number, session_of, ends_with_colon, turn_of, turns_of, schedule_words}
 
 bind_some : {A B : Type 0} (o : Option A) (f : A → Option B) (y : B) → (o >>= f) ≡ Some y → (x : A) × (o ≡ Some x) × (f x ≡ Some y)
 bind_some (Some x) f y e = (x, refl, e)
@@ -45,26 +49,60 @@ session_in : (sessions : ℕ) (word : List ℕ) (session : ℕ) → session_of s
 unfolding session_of
 session_in sessions word session e = number_in sessions _ session (choose_some (ends_with_colon word) _ session e)
 
-call_line_in : (sessions : ℕ) (text : List ℕ) (session : ℕ) (form : CallForm) → call_line sessions text ≡ Some (CallLine session form) → (1 ≤ session) × (session ≤ sessions)
-unfolding call_line
-call_line_in sessions text session form e =
-    let p = bind_some (word_at text) (λ word. session_of sessions word.0 >>= λ s. call_form word.1 >>= λ f. Some (CallLine s f)) (CallLine session form) e in
-    let q = bind_some (session_of sessions p.0.0) (λ s. call_form p.0.1 >>= λ f. Some (CallLine s f)) (CallLine session form) p.2 in
-    let r = bind_some (call_form p.0.1) (λ f. Some (CallLine q.0 f)) (CallLine session form) q.2 in
-    let same : q.0 ≡ session = let h = r.2 in cc in
-    subst (λ (s : ℕ). (1 ≤ s) × (s ≤ sessions)) same (session_in sessions p.0.0 q.0 q.1)
-
-no_call : (b : Bool) (x y : LineForm) → cond b (Some x) None ≡ Some y → x ≡ y
-no_call b x y e = (cond_some b x y e).1
+some_is : {A : Type 0} (x y : A) → Some x ≡ Some y → x ≡ y
+some_is x y e = cc
 
 -- the session of a call line is one that there is
-either : (b : Bool) (sessions : ℕ) (text : List ℕ) (session : ℕ) (form : CallForm) → cond b (schedule_line sessions text) (call_line sessions text) ≡ Some (CallLine session form) → (1 ≤ session) × (session ≤ sessions)
-unfolding schedule_line
-either true sessions text session form e = let h = no_call _ _ _ e in absurd cc
-either false sessions text session form e = call_line_in sessions text session form e
+call_line_in : (sessions : ℕ) (text : List ℕ) (form : LineForm) → call_line sessions text ≡ Some form → IsOfSessions sessions form
+unfolding call_line
+call_line_in sessions text form e =
+    let p = bind_some (word_at text) (λ word. session_of sessions word.0 >>= λ s. call_form word.1 >>= λ f. Some (CallLine s f)) form e in
+    let q = bind_some (session_of sessions p.0.0) (λ s. call_form p.0.1 >>= λ f. Some (CallLine s f)) form p.2 in
+    let r = bind_some (call_form p.0.1) (λ f. Some (CallLine q.0 f)) form q.2 in
+    subst (IsOfSessions sessions) (some_is (CallLine q.0 r.0) form r.2) (session_in sessions p.0.0 q.0 q.1)
 
--- a call that is built may stand in a script
-plain_stands : (call : Call) → is_built_plain call ≡ true → can_stand call ≡ true
+-- a turn names a session that there is
+numbered : (sessions : ℕ) (o : Option ℕ) (turn : Turn) → ((n : ℕ) → o ≡ Some n → (1 ≤ n) × (n ≤ sessions)) → (o >>= λ n. Some (turn_kinds.Session n)) ≡ Some turn → names_session sessions turn ≡ true
+numbered sessions None turn within e = absurd cc
+numbered sessions (Some n) turn within e =
+    let p = within n refl in
+    subst (λ (t : Turn). names_session sessions t ≡ true) (some_is (turn_kinds.Session n) turn e) (and_from (leb 1 n) (leb n sessions) (le-leb 1 n p.0) (le-leb n sessions p.1))
+
+any_turn : (sessions : ℕ) (b c : Bool) (o : Option Turn) (turn : Turn) → (o ≡ Some turn → names_session sessions turn ≡ true) → cond b (Some turn_kinds.Reclaim) (cond c (Some turn_kinds.Shrink) o) ≡ Some turn → names_session sessions turn ≡ true
+any_turn sessions true c o turn h e = subst (λ (t : Turn). names_session sessions t ≡ true) (some_is turn_kinds.Reclaim turn e) refl
+any_turn sessions false true o turn h e = subst (λ (t : Turn). names_session sessions t ≡ true) (some_is turn_kinds.Shrink turn e) refl
+any_turn sessions false false o turn h e = h e
+
+turn_named : (sessions : ℕ) (word : List ℕ) (turn : Turn) → turn_of sessions word ≡ Some turn → names_session sessions turn ≡ true
+unfolding turn_of
+turn_named sessions word turn e =
+    any_turn sessions (is_word (codes "r") word) (is_word (codes "shrink") word) (session_number sessions word >>= λ n. Some (turn_kinds.Session n)) turn (numbered sessions (session_number sessions word) turn (number_in sessions word)) e
+
+put_named : (sessions : ℕ) (word : List ℕ) (words : List (List ℕ)) (o : Option Turn) → turn_of sessions word ≡ o → list_all (names_session sessions) (turns_of sessions words) ≡ true → list_all (names_session sessions) (turns_of sessions (word ∷ words)) ≡ true
+put_named sessions word words None is others = rw is others
+put_named sessions word words (Some turn) is others = rw is (and_from (names_session sessions turn) _ (turn_named sessions word turn is) others)
+
+turns_named : (sessions : ℕ) (words : List (List ℕ)) → list_all (names_session sessions) (turns_of sessions words) ≡ true
+turns_named sessions [] = refl
+turns_named sessions (word ∷ words) = put_named sessions word words (turn_of sessions word) refl (turns_named sessions words)
+
+schedule_line_in : (sessions : ℕ) (text : List ℕ) (form : LineForm) → schedule_line sessions text ≡ Some form → IsOfSessions sessions form
+unfolding schedule_line
+schedule_line_in sessions text form e =
+    let p = cond_some _ (ScheduleLine (turns_of sessions (schedule_words text))) form e in
+    subst (IsOfSessions sessions) p.1 (turns_named sessions (schedule_words text))
+
+either : (b : Bool) (sessions : ℕ) (text : List ℕ) (form : LineForm) → cond b (schedule_line sessions text) (call_line sessions text) ≡ Some form → IsOfSessions sessions form
+either true sessions text form e = schedule_line_in sessions text form e
+either false sessions text form e = call_line_in sessions text form e
+
+pub is_form_after : (reading : Reading) (text : List ℕ) (form : LineForm) → form_of reading text ≡ Some form → IsFormAfter reading form
+is_form_after reads.Nothing text form e = tt
+is_form_after (reads.Options read) text form e = tt
+is_form_after (reads.Sessions parts) text form e = either (is_word (codes "schedule") (first_word text)) parts.sessions text form e
+
+-- a call that is played may stand in a script
+plain_stands : (call : Call) → is_played_plain call ≡ true → can_stand call ≡ true
 plain_stands (calls.Insert row) e = refl
 plain_stands (calls.Lock to row) e = refl
 plain_stands (calls.Length at) e = refl
@@ -72,7 +110,7 @@ plain_stands (calls.Read at amount offset) e = refl
 plain_stands calls.Commit e = refl
 plain_stands _ e = absurd cc
 
-with_stands : (call : PayloadCall) (payload : Payload) → is_built_call (WithPayload call payload) ≡ true → can_stand (call_with call (bytes_of payload)) ≡ true
+with_stands : (call : PayloadCall) (payload : Payload) → is_played_call (WithPayload call payload) ≡ true → can_stand (call_with call (bytes_of payload)) ≡ true
 with_stands (wants.WriteAppend at) (Text bytes) e = refl
 with_stands (wants.WriteAppend at) (Hex digits) e = absurd cc
 with_stands (wants.WriteAppend at) (Copies number byte) e = absurd cc
@@ -81,27 +119,36 @@ with_stands (wants.Write at offset) payload e = absurd cc
 with_stands (wants.FragInsert at offset) payload e = absurd cc
 with_stands (wants.FragReplace at old_amount offset) payload e = absurd cc
 
-pub stands : (form : CallForm) → is_built_call form ≡ true → can_stand (spelled_call form) ≡ true
+stands : (form : CallForm) → is_played_call form ≡ true → can_stand (spelled_call form) ≡ true
 stands (Plain call) e = plain_stands call e
 stands (WithPayload call payload) e = with_stands call payload e
 
-pub can_follow : (reading : Reading) (text : List ℕ) (form : LineForm) → form_or_later (form_of reading text) ≡ Ok form → form_passes_limit reading form ≡ false → CanFollow reading form
-unfolding form_passes_limit
-can_follow reads.Nothing text HeaderLine h limit = tt
-can_follow reads.Header text HeaderLine h limit = tt
-can_follow (reads.Sessions parts) text HeaderLine h limit = tt
-can_follow reads.Nothing text (SetsOption option) h limit = tt
-can_follow reads.Header text (SetsOption option) h limit = tt
-can_follow (reads.Sessions parts) text (SetsOption option) h limit = tt
-can_follow reading text (SessionsLine number) h limit =
+-- a form that isn't refused is played and within the limits
+neither : (later limit : Bool) → first_reason ((later, Later) ∷ (limit, Limit) ∷ []) ≡ None → (later ≡ false) × (limit ≡ false)
+neither true limit e = absurd cc
+neither false true e = absurd cc
+neither false false e = (refl, refl)
+
+allowed : (reading : Reading) (form : LineForm) → form_reason reading form ≡ None → (is_later form ≡ false) × (form_passes_limit reading form ≡ false)
+unfolding form_reason
+allowed reading form e = neither (is_later form) (form_passes_limit reading form) e
+
+follows : (reading : Reading) (form : LineForm) → IsFormAfter reading form → is_later form ≡ false → form_passes_limit reading form ≡ false → CanFollow reading form
+unfolding form_passes_limit is_later
+follows reads.Nothing HeaderLine after later limit = tt
+follows (reads.Options read) HeaderLine after later limit = tt
+follows (reads.Sessions parts) HeaderLine after later limit = tt
+follows reading (SetsOption option) after later limit = not_not (is_option_in_range option) limit
+follows reading (SessionsLine number) after later limit =
     let p = and_parts (leb 1 number) (leb number 16) (not_not (leb 1 number && leb number 16) limit) in
     (leb-true 1 number p.0, leb-true number 16 p.1)
-can_follow reads.Nothing text (ScheduleLine turns) h limit = tt
-can_follow reads.Header text (ScheduleLine turns) h limit = tt
-can_follow (reads.Sessions parts) text (ScheduleLine turns) h limit = tt
-can_follow reads.Nothing text (CallLine session form) h limit = tt
-can_follow reads.Header text (CallLine session form) h limit = tt
-can_follow (reads.Sessions parts) text (CallLine session form) h limit =
-    let p = built_ok (form_of (reads.Sessions parts) text) (CallLine session form) h in
-    let within = either (is_word (codes "schedule") (first_word text)) parts.sessions text session form p.0 in
-    record { low = within.0; high = within.1; built = p.1; room = limit }
+follows reads.Nothing (ScheduleLine turns) after later limit = tt
+follows (reads.Options read) (ScheduleLine turns) after later limit = tt
+follows (reads.Sessions parts) (ScheduleLine turns) after later limit = record { named = after; room = limit }
+follows reads.Nothing (CallLine session form) after later limit = tt
+follows (reads.Options read) (CallLine session form) after later limit = tt
+follows (reads.Sessions parts) (CallLine session form) after later limit =
+    record { low = after.0; high = after.1; stands = stands form (not_not (is_played_call form) later); room = limit }
+
+pub can_follow : (reading : Reading) (form : LineForm) → IsFormAfter reading form → form_reason reading form ≡ None → CanFollow reading form
+can_follow reading form after e = let p = allowed reading form e in follows reading form after p.0 p.1

@@ -3,7 +3,7 @@ use Rattle.std.proofs.Common.{◌≡◌, ℕ, ◌+◌, ◌<◌, ◌≤◌, true,
 use Rattle.std.specs.List.{position_or_len, slice_split}
 use Rattle.std.proofs.lemmas.List.Splits.{slice_split_first, length-slice_split}
 use Rattle.sf_script.specs.Lines.{lines_from, lines_of, is_line_feed}
-use Rattle.sf_script.proofs.CutLemmas.{one_part}
+use Rattle.sf_script_calls.proofs.CutLemmas.{one_part}
 
 ended : (text : List ℕ) (parts : List (List ℕ)) → 1 ≤ length parts → lines_from (text ∷ parts) ≡ record { text = text; ended = true } ∷ lines_from parts
 ended text [] le = absurd (omega arith)

@@ -1,81 +1,70 @@
 -- What a line makes of what was read before it.
-use Rattle.std.proofs.Common.{◌≡◌, ℕ, ◌+◌, Bool, true, false, cond, List, [], ◌∷◌, Option, Some, None, Result, Ok, Err, refl, sym, ap, ◌∙◌}
-use Rattle.std.specs.Prelude.{is_none, not}
-use Rattle.std.specs.Option.{option_map_or}
+use Rattle.std.proofs.Common.{◌≡◌, ℕ, ◌+◌, Bool, true, false, List, [], ◌∷◌, Option, Some, None, Result, Ok, Err, refl, sym, ap, ◌∙◌}
+use Rattle.std.specs.Prelude.{is_none}
+use Rattle.std.specs.Option.{option_or, option_map_or}
 use Rattle.sf_script.specs.declared.fault.Reason.{Reason}
 use Rattle.sf_script.specs.declared.fault.Reason.TheVariants.{Bytes, Place, Session, Form, Later, Limit}
 use Rattle.sf_script.specs.declared.fault.ScriptFault.{ScriptFault}
-use Rattle.sf_script.specs.declared.fault.Stop.{Stop}
-use Rattle.sf_script.specs.declared.fault.Stop.TheVariants as stops
 use Rattle.sf_script.specs.declared.reading.Reading.{Reading}
-use Rattle.sf_script.specs.Gives.{Fails}
 use Rattle.sf_script.specs.LineForms.{LineForm, form_of}
-use Rattle.sf_script.specs.Provisional.Forms.{is_built}
 use Rattle.sf_script.specs.Lines.{Line}
 use Rattle.sf_script.specs.Parts.{ScriptParts}
-use Rattle.sf_script.specs.Reasons.{has_wrong_bytes, is_misplaced, names_no_session, form_passes_limit, first_reason, reason_of, after_form, after_line}
-use Rattle.sf_script.specs.Inside.Readings.{reason_or, next_reading}
-use Rattle.sf_script.specs.Provisional.Forms.{form_or_later}
+use Rattle.sf_script.specs.Provisional.Lines.{is_later}
+use Rattle.sf_script.specs.Reasons.{has_wrong_bytes, is_misplaced, names_no_session, has_no_form, is_not_played, passes_limit, form_passes_limit, first_reason, reason_of, after_form, after_line}
+use Rattle.sf_script.specs.Inside.Readings.{reason_or, next_reading, early_reason, form_reason, reading_with}
 use Rattle.sf_script.specs.Scripts.{fault_at, fault_or, script_at_end, script_from}
 
-pub wrong_bytes : (reading : Reading) (line : Line) → has_wrong_bytes line ≡ true → next_reading reading line ≡ Err Bytes
-unfolding next_reading
-wrong_bytes reading line bytes = rw bytes refl
+-- the first reason of a table is one of its first three, or else the first of the others
+split : (a b c : Bool) (x y z : Reason) (others : List (Bool × Reason))
+    → first_reason ((a, x) ∷ (b, y) ∷ (c, z) ∷ others) ≡ option_or (first_reason ((a, x) ∷ (b, y) ∷ (c, z) ∷ [])) (first_reason others)
+split true b c x y z others = refl
+split false true c x y z others = refl
+split false false true x y z others = refl
+split false false false x y z others = refl
 
-pub misplaced : (reading : Reading) (line : Line) → has_wrong_bytes line ≡ false → is_misplaced reading line.text ≡ true → next_reading reading line ≡ Err Place
-unfolding next_reading
-misplaced reading line bytes place = rw (bytes, place) refl
-
-pub no_session : (reading : Reading) (line : Line) → has_wrong_bytes line ≡ false → is_misplaced reading line.text ≡ false → names_no_session reading line.text ≡ true → next_reading reading line ≡ Err Session
-unfolding next_reading
-no_session reading line bytes place session = rw (bytes, place, session) refl
-
--- what is left of a line where its bytes, its place and its sessions are right
-abbrev rest_of : Reading → Option LineForm → Result Reading Reason
-rest_of reading form =
+-- what is made of a line by its early reason and its form
+abbrev made_of : Reading → Option Reason → Option LineForm → Result Reading Reason
+made_of reading early form =
     reason_or
-    (first_reason ((is_none form, Form) ∷ (option_map_or (λ f. not (is_built f)) form false, Later) ∷ (option_map_or (form_passes_limit reading) form false, Limit) ∷ []))
+    (option_or early (first_reason ((is_none form, Form) ∷ (option_map_or is_later form false, Later) ∷ (option_map_or (form_passes_limit reading) form false, Limit) ∷ [])))
     (option_map_or (after_form reading) form reading)
 
-late : (reading : Reading) (line : Line) → has_wrong_bytes line ≡ false → is_misplaced reading line.text ≡ false → names_no_session reading line.text ≡ false → next_reading reading line ≡ rest_of reading (form_of reading line.text)
-unfolding next_reading
-late reading line bytes place session = rw (bytes, place, session) refl
+whole : (reading : Reading) (line : Line) → next_reading reading line ≡ made_of reading (early_reason reading line) (form_of reading line.text)
+unfolding next_reading early_reason
+whole reading line =
+    ap (λ (o : Option Reason). reason_or o (after_line reading line.text)) (split (has_wrong_bytes line) (is_misplaced reading line.text) (names_no_session reading line.text) Bytes Place Session ((has_no_form reading line.text, Form) ∷ (is_not_played reading line.text, Later) ∷ (passes_limit reading line.text, Limit) ∷ []))
 
--- a form that is not built, or none
-choose : (reading : Reading) (form : LineForm) (b : Bool) (reason : Reason) → is_built form ≡ b → cond b (Ok form) (Err Later) ≡ Err reason → rest_of reading (Some form) ≡ Err reason
-choose reading form true reason is e = absurd cc
-choose reading form false reason is e = let same : Later ≡ reason = cc in rw is (ap (λ (r : Reason). Err r) same)
+by_parts : (reading : Reading) (line : Line) (early : Option Reason) (form : Option LineForm) → early_reason reading line ≡ early → form_of reading line.text ≡ form → next_reading reading line ≡ made_of reading early form
+by_parts reading line early form is has =
+    whole reading line ∙ ap (λ (o : Option Reason). made_of reading o (form_of reading line.text)) is ∙ ap (made_of reading early) has
 
-unbuilt : (reading : Reading) (form : Option LineForm) (reason : Reason) → form_or_later form ≡ Err reason → rest_of reading form ≡ Err reason
-unbuilt reading None reason e = let same : Form ≡ reason = cc in ap (λ (r : Reason). Err r) same
-unbuilt reading (Some form) reason e = choose reading form (is_built form) reason refl e
+-- a line that is refused before its form is looked at
+pub stopped_early : (reading : Reading) (line : Line) (reason : Reason) → early_reason reading line ≡ Some reason → next_reading reading line ≡ Err reason
+stopped_early reading line reason is = by_parts reading line (Some reason) (form_of reading line.text) is refl
 
-pub fails : (stop : Stop) (reading : Reading) (line : Line) → has_wrong_bytes line ≡ false → is_misplaced reading line.text ≡ false → names_no_session reading line.text ≡ false
-    → Fails stop (form_or_later (form_of reading line.text)) → Fails stop (next_reading reading line)
-fails stops.Memory reading line bytes place session h = tt
-fails (stops.Refused reason) reading line bytes place session h =
-    late reading line bytes place session ∙ unbuilt reading (form_of reading line.text) reason h
+-- a line of no form
+pub stopped_by_form : (reading : Reading) (line : Line) → early_reason reading line ≡ None → form_of reading line.text ≡ None → next_reading reading line ≡ Err Form
+stopped_by_form reading line is has = by_parts reading line None None is has
 
-built_some : (form : LineForm) (b : Bool) (x : LineForm) → is_built form ≡ b → cond b (Ok form) (Err Later) ≡ Ok x → (form ≡ x) × (is_built x ≡ true)
-built_some form true x is e = let same : form ≡ x = cc in (same, ap is_built (sym same) ∙ is)
-built_some form false x is e = absurd cc
+-- a line of a form
+pub by_form : (reading : Reading) (line : Line) (form : LineForm) → early_reason reading line ≡ None → form_of reading line.text ≡ Some form → next_reading reading line ≡ reading_with reading form
+unfolding reading_with form_reason
+by_form reading line form is has = by_parts reading line None (Some form) is has
 
--- a form that is built
-pub built_ok : (form : Option LineForm) (x : LineForm) → form_or_later form ≡ Ok x → (form ≡ Some x) × (is_built x ≡ true)
-built_ok None x e = absurd cc
-built_ok (Some form) x e = let p = built_some form (is_built form) x refl e in (ap (λ (f : LineForm). Some f) p.0, p.1)
+-- a form that is refused, and one that isn't
+reason_first : (o : Option Reason) (reading : Reading) (reason : Reason) → o ≡ Some reason → reason_or o reading ≡ Err reason
+reason_first o reading reason is = ap (λ (r : Option Reason). reason_or r reading) is
 
-pub passes : (reading : Reading) (line : Line) (x : LineForm) → has_wrong_bytes line ≡ false → is_misplaced reading line.text ≡ false → names_no_session reading line.text ≡ false
-    → form_or_later (form_of reading line.text) ≡ Ok x → form_passes_limit reading x ≡ true → next_reading reading line ≡ Err Limit
-passes reading line x bytes place session h limit =
-    let p = built_ok (form_of reading line.text) x h in
-    late reading line bytes place session ∙ rw (p.0, p.1, limit) refl
+reason_none : (o : Option Reason) (reading next : Reading) → o ≡ None → next ≡ reading → reason_or o reading ≡ Ok next
+reason_none o reading next is same = ap (λ (r : Option Reason). reason_or r reading) is ∙ ap (λ (r : Reading). Ok r) (sym same)
 
-pub done : (reading : Reading) (line : Line) (x : LineForm) → has_wrong_bytes line ≡ false → is_misplaced reading line.text ≡ false → names_no_session reading line.text ≡ false
-    → form_or_later (form_of reading line.text) ≡ Ok x → form_passes_limit reading x ≡ false → next_reading reading line ≡ Ok (after_form reading x)
-done reading line x bytes place session h limit =
-    let p = built_ok (form_of reading line.text) x h in
-    late reading line bytes place session ∙ rw (p.0, p.1, limit) refl
+pub with_reason : (reading : Reading) (form : LineForm) (reason : Reason) → form_reason reading form ≡ Some reason → reading_with reading form ≡ Err reason
+unfolding reading_with
+with_reason reading form reason is = reason_first (form_reason reading form) (after_form reading form) reason is
+
+pub with_none : (reading : Reading) (form : LineForm) (next : Reading) → form_reason reading form ≡ None → next ≡ after_form reading form → reading_with reading form ≡ Ok next
+unfolding reading_with
+with_none reading form next is same = reason_none (form_reason reading form) (after_form reading form) next is same
 
 went : (o : Option Reason) (after next : Reading) (number : ℕ) (script : Reading → Result ScriptParts ScriptFault) → reason_or o after ≡ Ok next → fault_or number o (script after) ≡ script next
 went None after next number script e = let same : after ≡ next = cc in ap script same

@@ -1,18 +1,17 @@
 -- The words of a text, one after the other.
-use Rattle.std.proofs.Common.{◌≡◌, ℕ, ◌+◌, ◌≤◌, ◌<◌, Bool, true, false, cond, ◌&&◌, List, [], ◌∷◌, length, drop, Some, None, Err, refl, sym, ap, ◌∙◌, arith}
+use Rattle.std.proofs.Common.{◌≡◌, ℕ, ◌+◌, ◌≤◌, ◌<◌, Bool, true, false, cond, ◌&&◌, List, [], ◌∷◌, length, drop, ◌++◌, Option, Some, None, refl, sym, ap, ◌∙◌, arith}
 use Rattle.std.specs.Prelude.{is_some}
-use Rattle.std.specs.List.{position_or_len}
+use Rattle.std.specs.List.{position_or_len, cons_option}
 use Rattle.std.proofs.lemmas.Bool.{ltb-true, ltb-false}
 use Rattle.std.proofs.lemmas.List.{length-drop}
 use Rattle.std.proofs.lemmas.List.Splits.{slice_split_first, length-slice_split}
 use Rattle.std.proofs.lemmas.Option.{cond_some}
-use Rattle.sf_script.specs.declared.fault.Reason.TheVariants.{Form, Later}
-use Rattle.sf_script.specs.LineForms.{schedule_line}
-use Rattle.sf_script.specs.Numbers.{is_empty_list}
-use Rattle.sf_script.specs.Provisional.Forms.{form_or_later}
-use Rattle.sf_script.specs.Schedules.{schedule_words, turn_of, are_turns}
-use Rattle.sf_script.specs.Words.{is_space, has_space, first_word, word_at, parts_of}
-use Rattle.sf_script.proofs.CutLemmas.{one_part}
+use Rattle.sf_script.specs.declared.turn.Turn.{Turn}
+use Rattle.sf_script.specs.LineForms.{schedule_line, ScheduleLine}
+use Rattle.sf_script_calls.specs.Numbers.{is_empty_list, number_of}
+use Rattle.sf_script.specs.Schedules.{schedule_words, session_number, turn_of, are_turns, turns_of}
+use Rattle.sf_script_calls.specs.Words.{is_space, has_space, first_word, word_at, parts_of, is_word}
+use Rattle.sf_script_calls.proofs.CutLemmas.{one_part}
 
 cut_some : {A : Type 0} (b : Bool) (x y : A) → Some y ≡ cond b (Some x) None → (b ≡ true) × (x ≡ y)
 cut_some b x y e = cond_some b x y (sym e)
@@ -98,15 +97,42 @@ has_turns sessions text word rest cut = ap (are_turns sessions) (words_behind te
 pub has_none : (sessions : ℕ) (text : List ℕ) → None ≡ word_at text → are_turns sessions (schedule_words text) ≡ true
 has_none sessions text cut = ap (are_turns sessions) (no_words text cut) ∙ turns-nil sessions
 
--- a schedule line is never built
-pub schedule_none : (sessions : ℕ) (text : List ℕ) → None ≡ word_at text → form_or_later (schedule_line sessions text) ≡ Err Form
+-- the forms of schedule lines
+pub schedule_none : (sessions : ℕ) (text : List ℕ) → None ≡ word_at text → schedule_line sessions text ≡ None
 unfolding schedule_line
 schedule_none sessions text cut = rw (no_words text cut) refl
 
-pub schedule_wrong : (sessions : ℕ) (text word rest : List ℕ) → Some (word, rest) ≡ word_at text → are_turns sessions (parts_of rest) ≡ false → form_or_later (schedule_line sessions text) ≡ Err Form
+pub schedule_wrong : (sessions : ℕ) (text word rest : List ℕ) → Some (word, rest) ≡ word_at text → are_turns sessions (parts_of rest) ≡ false → schedule_line sessions text ≡ None
 unfolding schedule_line
 schedule_wrong sessions text word rest cut wrong = rw (words_behind text word rest cut, has_part rest, wrong) refl
 
-pub schedule_later : (sessions : ℕ) (text word rest : List ℕ) → Some (word, rest) ≡ word_at text → are_turns sessions (parts_of rest) ≡ true → form_or_later (schedule_line sessions text) ≡ Err Later
+pub schedule_right : (sessions : ℕ) (text word rest : List ℕ) → Some (word, rest) ≡ word_at text → are_turns sessions (parts_of rest) ≡ true → schedule_line sessions text ≡ Some (ScheduleLine (turns_of sessions (parts_of rest)))
 unfolding schedule_line
-schedule_later sessions text word rest cut right = rw (words_behind text word rest cut, has_part rest, right) refl
+schedule_right sessions text word rest cut right = rw (words_behind text word rest cut, has_part rest, right) refl
+
+-- the turns of a text's words, cut at its first space
+put_first : (o : Option Turn) (turns : List Turn) → cons_option o turns ≡ cons_option o [] ++ turns
+put_first None turns = refl
+put_first (Some turn) turns = refl
+
+pub turns_cut : (sessions : ℕ) (text word rest : List ℕ) → Some (word, rest) ≡ word_at text → turns_of sessions (parts_of text) ≡ turns_of sessions (word ∷ []) ++ turns_of sessions (parts_of rest)
+turns_cut sessions text word rest cut = ap (turns_of sessions) (first_part text word rest cut) ∙ put_first (turn_of sessions word) (turns_of sessions (parts_of rest))
+
+pub turns_end : (sessions : ℕ) (text : List ℕ) → None ≡ word_at text → turns_of sessions (parts_of text) ≡ turns_of sessions (text ∷ [])
+turns_end sessions text cut = ap (turns_of sessions) (last_part text cut)
+
+-- a word is one turn at most, and none where it is empty
+one_or_none : (o : Option Turn) → length (cons_option o []) ≤ 1
+one_or_none None = omega arith
+one_or_none (Some turn) = omega arith
+
+pub at_most_one : (sessions : ℕ) (word : List ℕ) → length (turns_of sessions (word ∷ [])) ≤ 1
+at_most_one sessions word = one_or_none (turn_of sessions word)
+
+no_turn : (sessions : ℕ) → turn_of sessions [] ≡ None
+unfolding turn_of session_number number_of is_word
+no_turn sessions = refl
+
+pub turn_has_byte : (sessions : ℕ) (word : List ℕ) → length (turns_of sessions (word ∷ [])) ≤ length word
+turn_has_byte sessions [] = rw (no_turn sessions) (omega arith)
+turn_has_byte sessions (byte ∷ word) = omega (arith, at_most_one sessions (byte ∷ word))

@@ -1,9 +1,4 @@
 pub mod Lines
-pub mod Words
-pub mod Numbers
-pub mod Payloads
-pub mod Calls
-pub mod CallLines
 pub mod OptionLines
 pub mod Schedules
 pub mod LineForms

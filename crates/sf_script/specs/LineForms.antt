@@ -1,17 +1,16 @@
 -- The forms of lines (our own). Which form a line has depends on where it stands.
-use Rattle.std.specs.Prelude.{ℕ, not, ◌&&◌, ◌==◌, List, Option, Some, None, if◌then◌else◌, codes}
-use Rattle.sf_types.specs.declared.call.Call.TheVariants as calls
-use Rattle.sf_script.specs.declared.call.PayloadCall.TheVariants as wants
+use Rattle.std.specs.Prelude.{ℕ, not, ◌&&◌, List, Option, Some, None, if◌then◌else◌, codes}
 use Rattle.sf_script.specs.declared.turn.Turn.{Turn}
 use Rattle.sf_script.specs.declared.reading.Reading.{Reading}
 use Rattle.sf_script.specs.declared.reading.Reading.TheVariants as reads
-use Rattle.sf_script.specs.CallLines.{call_form}
-use Rattle.sf_script.specs.Calls.{CallForm}
-use Rattle.sf_script.specs.Gives.{◌>>=◌}
-use Rattle.sf_script.specs.Numbers.{is_empty_list, number_of}
-use Rattle.sf_script.specs.OptionLines.{OptionLine, option_of}
+use Rattle.sf_script_calls.specs.CallTable.{call_form}
+use Rattle.sf_script_calls.specs.Calls.{CallForm}
+use Rattle.sf_script_calls.specs.Reads.{◌>>=◌}
+use Rattle.sf_script_calls.specs.Numbers.{is_empty_list, number_of}
+use Rattle.sf_script.specs.declared.option_line.OptionLine.{OptionLine}
+use Rattle.sf_script.specs.OptionLines.{option_of}
 use Rattle.sf_script.specs.Schedules.{session_of, are_turns, turns_of, schedule_words}
-use Rattle.sf_script.specs.Words.{first_word, word_at, is_word}
+use Rattle.sf_script_calls.specs.Words.{first_word, word_at, is_word}
 
 -- What a line says: the header, an option, the number of sessions, a session's call, or turns of the schedule.
 pub data LineForm : Type 0 where
@@ -56,6 +55,6 @@ schedule_line sessions text =
 -- The form of a line. None where it has none.
 abbrev pub form_of : Reading → List ℕ → Option LineForm
 form_of reads.Nothing text = header_line text
-form_of reads.Header text = option_line text
+form_of (reads.Options read) text = option_line text
 form_of (reads.Sessions parts) text =
     if is_word (codes "schedule") (first_word text) then schedule_line parts.sessions text else call_line parts.sessions text

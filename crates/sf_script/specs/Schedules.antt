@@ -3,9 +3,9 @@ use Rattle.std.specs.Prelude.{ℕ, ◌-◌, Bool, ◌&&◌, ◌==◌, nat_le, Li
 use Rattle.std.specs.List.{list_all, filter_map}
 use Rattle.sf_script.specs.declared.turn.Turn.{Turn}
 use Rattle.sf_script.specs.declared.turn.Turn.TheVariants as turn_kinds
-use Rattle.sf_script.specs.Gives.{◌>>=◌}
-use Rattle.sf_script.specs.Numbers.{number_of}
-use Rattle.sf_script.specs.Words.{is_word, parts_of}
+use Rattle.sf_script_calls.specs.Reads.{◌>>=◌}
+use Rattle.sf_script_calls.specs.Numbers.{number_of}
+use Rattle.sf_script_calls.specs.Words.{is_word, parts_of}
 
 -- The number of one of so many sessions.
 unfoldable pub session_number : ℕ → List ℕ → Option ℕ

@@ -1,24 +1,19 @@
 //! Scripts: what the sessions of a store call, as a text, and the parser that equals its grammar.
 #![tactic(auto)]
 
-mod call;
-mod call_forms;
-mod call_table;
 mod checks;
 mod fault;
-mod fields;
+mod later;
 mod limits;
 mod line_form;
 mod lines;
-mod number;
+mod option_line;
+mod options_read;
 mod parser;
-mod payload;
-mod provisional;
 mod reading;
 mod schedule;
 mod script;
 mod turn;
-mod words;
 
 pub use fault::{Reason, ScriptFault};
 pub use limits::{SCRIPT_BYTES, SCRIPT_CALLS, SCRIPT_PAYLOAD_BYTES, SCRIPT_TURNS};

@@ -4,7 +4,7 @@ ghost use Rattle.std.specs.List.{list_all};
 ghost use Rattle.sf_script.specs.Lines.{lines_of, is_line_byte};
 ghost use Rattle.sf_script.specs.Inside.Views.{text_line};
 
-use crate::words::place_of;
+use sf_script_calls::place_of;
 
 // A line without its line feed, and whether a line feed ends it.
 #[derive(Clone, Copy)]

@@ -31,8 +31,8 @@ impl Model for Script {
 }
 
 impl Script {
-    // The script of these parts.
-    pub(crate) fn new(options: Options, sessions: u16, calls: CallTable, turns: TurnList) -> Script
+    /// The script of these parts.
+    pub fn new(options: Options, sessions: u16, calls: CallTable, turns: TurnList) -> Script
         requires { IsScript (record { options = options; sessions = sessions; calls = calls; turns = turns }) }
         ensures { result ≡ record { options = options; sessions = sessions; calls = calls; turns = turns } }
     {

@@ -1,33 +1,19 @@
-use Rattle.std.proofs.Common.{Ok, sym, ap, ◌∙◌}
-use Rattle.std.proofs.lemmas.Result.{err_from_is_err_and}
-use Rattle.sf_script.specs.declared.reading.Reading.{Reading}
+use Rattle.std.proofs.Common.{sym}
 use Rattle.sf_script.specs.Inside.Views.{text_line, line_view}
-use Rattle.sf_script.proofs.FollowLemmas.{can_follow}
-use Rattle.sf_script.proofs.StepLemmas.{wrong_bytes, misplaced, no_session, fails, passes, done}
+use Rattle.sf_script.proofs.FollowLemmas.{is_form_after}
+use Rattle.sf_script.proofs.StepLemmas.{stopped_early, stopped_by_form, by_form}
 use Rattle.sf_script.proofs.parser.read_line.Goals as goal
 
-pub returns-then-has_wrong_bytes : goal.returns-then-has_wrong_bytes
-returns-then-has_wrong_bytes c = wrong_bytes c.args.reading (text_line c.args.line) (cc)
+pub returns-in-Some : goal.returns-in-Some
+returns-in-Some c = stopped_early c.args.reading (text_line c.args.line) c.in-Some.reason (sym c.in-Some.ensures)
 
-pub returns-then-is_misplaced : goal.returns-then-is_misplaced
-returns-then-is_misplaced c = misplaced c.args.reading (text_line c.args.line) (cc) (cc)
+pub read_form-requires : goal.read_form-requires
+read_form-requires c = is_form_after c.args.reading c.args.line.text.now (line_view c.in-Ok.form) c.in-Ok.ensures
 
-pub returns-then-names_no_session : goal.returns-then-names_no_session
-returns-then-names_no_session c = no_session c.args.reading (text_line c.args.line) (cc) (cc) (cc)
+pub returns-in-Ok : goal.returns-in-Ok
+returns-in-Ok c =
+    rw (by_form c.args.reading (text_line c.args.line) (line_view c.in-Ok.form) (sym c.in_default.ensures) c.in-Ok.ensures) c.read_form.ensures
 
-pub returns-in_err-form : goal.returns-in_err-form
-returns-in_err-form c =
-    let p = err_from_is_err_and c.from_residual.result c.from_residual.ensures.1 in
-    rw (p.1, p.2) (fails c.in_err-form.field-0.0 c.args.reading (text_line c.args.line) (cc) (cc) (cc) c.in_err-form.ensures)
-
-pub returns-then-passes_limit : goal.returns-then-passes_limit
-returns-then-passes_limit c =
-    passes c.args.reading (text_line c.args.line) (line_view c.in_ok-form.form) (cc) (cc) (cc) c.in_ok-form.ensures (cc)
-
-pub after_form-requires : goal.after_form-requires
-after_form-requires c =
-    can_follow c.args.reading c.args.line.text.now (line_view c.in_ok-form.form) c.in_ok-form.ensures (cc)
-
-pub returns : goal.returns
-returns c =
-    done c.args.reading (text_line c.args.line) (line_view c.in_ok-form.form) (cc) (cc) (cc) c.in_ok-form.ensures (cc) ∙ ap (λ (next : Reading). Ok next) (sym c.in_ok-after_form.ensures)
+pub returns-in-Err-NoForm : goal.returns-in-Err-NoForm
+returns-in-Err-NoForm c =
+    stopped_by_form c.args.reading (text_line c.args.line) (sym c.in_default.ensures) (rw c.in-Err-NoForm.field-0-is at c.in-Err-NoForm.ensures)

@@ -1,6 +1,6 @@
 use Rattle.std.proofs.Common.{◌≡◌, length}
 use Rattle.sf_script.specs.Schedules.{are_turns}
-use Rattle.sf_script.specs.Words.{parts_of}
+use Rattle.sf_script_calls.specs.Words.{parts_of}
 use Rattle.sf_script.proofs.schedule.are_turns.Given as goal
 
 abbrev pub invariant-loop-word : goal.invariant-loop-word

@@ -1,6 +1,7 @@
 use Rattle.std.proofs.Common.{◌≡◌, ◌-◌, ◌≤◌, ◌<◌, false, [], length, sym, subst, arith}
 use Rattle.std.proofs.lemmas.List.{get_or_read}
-use Rattle.sf_script.specs.Parts.{ScriptParts, payload_length}
+use Rattle.sf_script_calls.specs.Calls.{payload_length}
+use Rattle.sf_script.specs.Parts.{ScriptParts}
 use Rattle.sf_script.specs.Reasons.{passes_call_limit}
 use Rattle.sf_script.proofs.DraftLemmas.{with_call_is_draft}
 use Rattle.sf_script.proofs.reading.Draft.with_call.Goals as goal

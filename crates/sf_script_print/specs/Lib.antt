@@ -1,0 +1,2 @@
+pub mod PrintedCalls
+pub mod Printing
