@@ -23,6 +23,3 @@ pub use sink::Sink;
 pub use source::Source;
 pub use standard::{StdSink, StdSource, StdStream};
 pub use sure::{SureSink, SureSource};
-
-#[cfg(test)]
-mod tests;

@@ -11,7 +11,7 @@ use Rattle.sf_script.specs.declared.reading.Reading.TheVariants as reads
 use Rattle.sf_script.specs.declared.limits.TheConstants.{SCRIPT_BYTES}
 use Rattle.sf_script.specs.Lines.{Line, lines_of}
 use Rattle.sf_script.specs.Parts.{ScriptParts}
-use Rattle.sf_script.specs.Reasons.{first_reason, reason_of, has_wrong_bytes, is_misplaced, names_no_session, has_no_form, is_not_built, passes_limit, after_line}
+use Rattle.sf_script.specs.Reasons.{first_reason, reason_of, has_wrong_bytes, is_misplaced, names_no_session, has_no_form, is_not_played, passes_limit, after_line}
 use Rattle.sf_script.specs.Scripts.{fault_at, fault_or, script_at_end, script_from, script_of}
 use Rattle.std.specs.declared.alloc.Global.{Global}
 use Rattle.sf_outside.specs.Sink.{GrowsBy}
@@ -77,7 +77,7 @@ first_reason-size false false false false false false = refl
 
 reason-size : (reading : Reading) (line : Line) → size_among (reason_of reading line) ≡ false
 reason-size reading line =
-    first_reason-size (has_wrong_bytes line) (is_misplaced reading line.text) (names_no_session reading line.text) (has_no_form reading line.text) (is_not_built reading line.text) (passes_limit reading line.text)
+    first_reason-size (has_wrong_bytes line) (is_misplaced reading line.text) (names_no_session reading line.text) (has_no_form reading line.text) (is_not_played reading line.text) (passes_limit reading line.text)
 
 fault_or-size : (number : ℕ) (reason : Option Reason) (script : Result ScriptParts ScriptFault) → size_among reason ≡ false → size_in script ≡ false → size_in (fault_or number reason script) ≡ false
 fault_or-size number None script none other = other
@@ -85,7 +85,7 @@ fault_or-size number (Some reason) script none other = none
 
 at_end-size : (number : ℕ) (reading : Reading) → size_in (script_at_end number reading) ≡ false
 at_end-size number reads.Nothing = refl
-at_end-size number reads.Header = refl
+at_end-size number (reads.Options read) = refl
 at_end-size number (reads.Sessions parts) = refl
 
 script_from-size : (number : ℕ) (reading : Reading) (lines : List Line) → size_in (script_from number reading lines) ≡ false

@@ -3,21 +3,16 @@ use Rattle.std.specs.Prelude.{◌≡◌, ℕ, List, [], ◌∷◌, ◌++◌, map
 use Rattle.sf_types.specs.declared.call.Call.{Call}
 use Rattle.sf_types.specs.declared.call.Call.TheVariants.{End}
 use Rattle.sf_types.specs.declared.history.Entry.{Entry}
-use Rattle.sf_types.specs.declared.history.Kind.TheVariants as kind
 use Rattle.sf_types.specs.declared.history.Token.{Token}
 use Rattle.sf_types.specs.declared.played.Played.{Played}
 use Rattle.sf_types.specs.declared.reply.Reply.{Reply}
 use Rattle.sf_types.specs.Orders.RowEnds.{row_ends_of}
-use Rattle.sf_types.specs.Orders.Histories.{call_effect, table_after, replies_from, replies_to}
+use Rattle.sf_types.specs.Orders.Histories.{call_effect, call_entries, table_after, replies_from, replies_to}
 use Rattle.sf_types.specs.Table.Sessions.{session_of}
 use Rattle.sf_types.specs.Table.Parts.{Table, opening_table}
 use Rattle.sf_types.specs.Table.Versions.{commit_count}
 use Rattle.sf_script.specs.Parts.{ScriptParts}
 use Rattle.sf_program.specs.Transcripts.{transcript_text}
-
--- A call of session 1, as an entry of the history.
-abbrev pub entry_of : Call → Entry
-entry_of call = record { token = record { session = 1; kind = kind.Call }; call = call }
 
 -- What a call of session 1 does in the run: the table after it, and the reply.
 abbrev pub done_by : Table → Call → Table × Reply
@@ -29,7 +24,7 @@ calls_of script = slice_index_or script.calls 0 []
 
 -- The history: session 1 once for each of its calls, in script order, and once for its End.
 abbrev pub history_of : ScriptParts → List Entry
-history_of script = map entry_of (calls_of script ++ End ∷ [])
+history_of script = call_entries 1 (calls_of script ++ End ∷ [])
 
 -- The order of the play.
 abbrev pub order_of : ScriptParts → List Token

@@ -14,6 +14,3 @@ pub use exit::{exit_code, securefiles};
 pub use program::securefiles_plain;
 pub use status::Status;
 pub use words::read_words;
-
-#[cfg(test)]
-mod tests;

@@ -3,10 +3,10 @@ ghost use Rattle.std.specs.Prelude.{◌≡◌, ◌∷◌, [], ◌++◌, ◌≤�
 ghost use Rattle.std.specs.List.{list_all};
 ghost use Rattle.sf_types.specs.declared.call.Call.TheVariants.{End};
 ghost use Rattle.sf_model.specs.Provisional.{has_step};
-ghost use Rattle.sf_types.specs.Orders.Histories.{table_after, replies_from, replies_to};
-ghost use Rattle.sf_script.specs.Provisional.Calls.{can_stand};
+ghost use Rattle.sf_types.specs.Orders.Histories.{call_entries, table_after, replies_from, replies_to};
+ghost use Rattle.sf_script.specs.Provisional.Calls.{can_stand, ArePlayed};
 ghost use Rattle.sf_program.specs.Live.{IsLive};
-ghost use Rattle.sf_program.specs.Plays.{entry_of, done_by, calls_of, order_of, replies_of, end_of, IsPlayed};
+ghost use Rattle.sf_program.specs.Plays.{done_by, calls_of, order_of, replies_of, end_of, IsPlayed};
 
 use sf_model::Plain;
 use sf_script::Script;
@@ -15,6 +15,7 @@ use std::alloc::Global;
 
 // The calls of session 1, the one that plays today.
 fn first_calls(script: &Script) -> &[Call]
+    requires { ArePlayed script.now.calls }
     ensures calls { result.now ≡ calls_of script.now }
     ensures stand { IsTrue (list_all can_stand result.now) }
 {
@@ -46,8 +47,8 @@ fn play_session(alloc: Global, plain: &mut Plain, calls: &[Call]) -> Mem<ReplyLi
     requires live { IsLive plain.old }
     requires stand { IsTrue (list_all can_stand calls.now) }
     ensures replies { IfOk result (λ replies.
-        replies ≡ replies_to 1 (replies_from plain.old (map entry_of (calls.now ++ End ∷ [])))) }
-    ensures table { OnOk result (plain.new ≡ table_after plain.old (map entry_of (calls.now ++ End ∷ []))) }
+        replies ≡ replies_to 1 (replies_from plain.old (call_entries 1 (calls.now ++ End ∷ [])))) }
+    ensures table { OnOk result (plain.new ≡ table_after plain.old (call_entries 1 (calls.now ++ End ∷ []))) }
 {
     let mut replies = List::new(alloc);
     for call in calls {
@@ -73,6 +74,7 @@ fn order_of_calls(alloc: Global, count: usize) -> Mem<Order>
 
 /// Plays a script: session 1 once for each of its calls and once for its End.
 pub fn play(alloc: Global, script: &Script) -> Mem<Played>
+    requires { ArePlayed script.now.calls }
     ensures { IfOk result (λ played. IsPlayed script.now played) }
 {
     let mut plain = Plain::new(alloc, script.options(), script.sessions())?;

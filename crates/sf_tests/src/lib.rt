@@ -1,4 +1,4 @@
-//! Tests of crates on which no program stands yet. They use public calls alone.
+//! Tests of all crates but the programs. They use public calls alone.
 #![tactic(auto)]
 
 #[cfg(test)]
@@ -10,4 +10,12 @@ mod free_commit;
 #[cfg(test)]
 mod lifetimes;
 #[cfg(test)]
+mod outside;
+#[cfg(test)]
+mod program;
+#[cfg(test)]
+mod script_text;
+#[cfg(test)]
 mod shrink;
+#[cfg(test)]
+mod values;

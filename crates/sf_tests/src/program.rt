@@ -1,16 +1,10 @@
-ghost use Rattle.std.specs.Prelude.{◌≤◌};
-
+//! The program, from the bytes that it reads to those that it writes.
 mod long_script;
 mod refusals;
 mod words;
 
-use crate::program::securefiles_plain;
-use crate::status::Status;
-use sf_outside::{MemSink, MemSource};
-use sf_types::{
-    Births, Blob, Call, Entry, Kind, List, LocName, Mem, Reply, Run, Runs, Token, TryCopy,
-    reply_text,
-};
+use sf_outside::{MemSink, MemSource, SureSink, SureSource};
+use sf_program::{Status, securefiles_plain};
 use std::alloc::Global;
 use std::test::*;
 
@@ -31,18 +25,19 @@ const REFUSED_TRANSCRIPT: &str =
 
 const USAGE: &str = "usage: securefiles_cli play | run | check | bench SEED SESSIONS CALLS\n";
 
-// The status and the output for a word and an input, read in pieces of so many bytes.
-fn ran(alloc: Global, word: &str, input: Vec<u8>, piece: usize) -> Result<(Status, MemSink), Fail>
-    requires { 1 ≤ piece }
-{
+// The status and the output for a word and an input.
+fn ran(alloc: Global, word: &str, input: Vec<u8>, room: usize) -> Result<(Status, SureSink), Fail> {
     let mut words = Vec::new(alloc);
     words.push(word.to_string(alloc)?)?;
-    let mut source = MemSource::new(input, piece, Vec::new(alloc));
-    let mut sink = MemSink::new(alloc, 1000, 5, Vec::new(alloc))
-        .ok()
-        .ok_or("memory")?;
+    let mut source = SureSource::new(input);
+    let mut sink = SureSink::new(alloc, room)?;
     let status = securefiles_plain(alloc, &words, &mut source, &mut sink);
     Ok((status, sink))
+}
+
+// The status and the output for a script, of which there are at most so many bytes.
+fn played(alloc: Global, script: Vec<u8>, room: usize) -> Result<(Status, SureSink), Fail> {
+    ran(alloc, "play", script, room)
 }
 
 #[test]
@@ -63,7 +58,7 @@ fn plays_scripts(rt: HostRuntime) -> Result<(), Fail> {
     for (word, calls, status, output) in rows {
         let mut input = HEADER.as_bytes().to_vec(alloc)?;
         input.extend_from_slice(calls.as_bytes())?;
-        let (ended, sink) = ran(alloc, word, input, 7)?;
+        let (ended, sink) = ran(alloc, word, input, 1_000)?;
         assert_eq!(rt; ended, status, "{calls}");
         assert_eq!(rt; sink.bytes(), output.as_bytes(), "{calls}");
     }
@@ -78,7 +73,7 @@ fn ran_failing(alloc: Global, read: u64, write: u64) -> Result<(Status, MemSink)
     input.extend_from_slice(FIRST_PATH.as_bytes())?;
     let mut source = MemSource::new(input, 10, Vec::from_slice(alloc, &[read])?);
     let writes = Vec::from_slice(alloc, &[write])?;
-    let mut sink = MemSink::new(alloc, 264, 10, writes).ok().ok_or("memory")?;
+    let mut sink = MemSink::new(alloc, 264, 10, writes)?;
     let status = securefiles_plain(alloc, &words, &mut source, &mut sink);
     Ok((status, sink))
 }
@@ -104,51 +99,5 @@ fn faults_are_told(rt: HostRuntime) -> Result<(), Fail> {
     }
     let (ended, _) = ran_failing(alloc, 13, 19)?;
     assert_eq!(rt; ended, Status::Done);
-    Ok(())
-}
-
-// What was made, or why the test can't go on.
-fn made<T>(outcome: Mem<T>) -> Result<T, Fail> {
-    let Ok(value) = outcome else {
-        return Err("memory".into());
-    };
-    Ok(value)
-}
-
-#[test]
-fn names_and_replies_are_made(rt: HostRuntime) -> Result<(), Fail> {
-    let alloc = rt.alloc();
-    let long = made(LocName::new(alloc, b"seventeen-letters"))?;
-    assert!(rt; long.is_none());
-    let reply = Reply::Bytes(made(Blob::new(alloc, &[1, 171]))?);
-    let text = made(reply_text(alloc, &made(reply.copy())?))?;
-    assert_eq!(rt; text.as_bytes(), b"x01ab".as_slice());
-    Ok(())
-}
-
-#[test]
-fn lists_are_made(rt: HostRuntime) -> Result<(), Fail> {
-    let alloc = rt.alloc();
-    let mut births = Births::new(alloc);
-    made(births.push(7))?;
-    assert_eq!(rt; made(births.copy())?.as_slice(), [7].as_slice());
-    let token = Token {
-        session: 1,
-        kind: Kind::Promise,
-    };
-    let mut history = List::new(alloc);
-    made(history.push(Entry {
-        token,
-        call: Call::Commit,
-    }))?;
-    let order = made(made(history.copy())?.order())?;
-    assert_eq!(rt; made(order.copy())?.as_slice(), [token].as_slice());
-    let mut runs = Runs::new(alloc);
-    made(runs.make_room(1))?;
-    made(runs.push(Run {
-        first: 3,
-        blocks: 2,
-    }))?;
-    assert_eq!(rt; made(runs.copy())?.len(), 1);
     Ok(())
 }

@@ -1,8 +1,6 @@
 //! What the program answers to texts that are no scripts, and to texts at the limits.
-use super::ran;
-use crate::status::Status;
-use sf_script::parse;
-use sf_types::{Call, Options};
+use super::played;
+use sf_program::Status;
 use std::alloc::Global;
 use std::process::Abort;
 use std::test::*;
@@ -68,7 +66,7 @@ fn expect(
     text: Vec<u8>,
     fault: Option<(u32, &str)>,
 ) -> Result<(), Fail> {
-    let (ended, sink) = ran(alloc, "play", text, 1_000)?;
+    let (ended, sink) = played(alloc, text, 1_000)?;
     match fault {
         None => assert_eq!(rt; ended, Status::Done),
         Some((line, reason)) => {
@@ -121,34 +119,4 @@ fn limits(rt: HostRuntime) -> Result<(), Fail> {
     expect(&rt, rt.alloc(), long, Some((0, "size")))?;
     let long = vec![in rt.alloc(); b'a'; 16_777_216]?;
     expect(&rt, rt.alloc(), long, Some((1, "bytes")))
-}
-
-#[test]
-fn a_script_has_its_calls(rt: HostRuntime) -> Result<(), Fail> {
-    let text =
-        b"securefiles 1\nsessions 1\n1: insert a\n1: lock p a\n1: writeappend p \"abc\"\n1: length p\n1: read p 3 1\n1: commit\n";
-    let script = parse(rt.alloc(), text)?.ok().ok_or("it is a script")?;
-    assert_eq!(rt; script.options(), Options::standard());
-    assert_eq!(rt; script.sessions(), 1);
-    assert_eq!(rt; script.calls().len(), 1);
-    assert!(rt; script.turns().is_empty());
-    let calls = script.calls().get(0).ok_or("it has a session")?;
-    assert_eq!(rt; calls.len(), 6);
-    assert!(rt;
-        matches!(calls.get(0), Some(Call::Insert { row }) if row.as_bytes() == b"a".as_slice())
-    );
-    assert!(rt;
-        matches!(calls.get(1), Some(Call::Lock { to, row }) if to.as_bytes() == b"p".as_slice() && row.as_bytes() == b"a".as_slice())
-    );
-    assert!(rt;
-        matches!(calls.get(2), Some(Call::WriteAppend { at, bytes }) if at.as_bytes() == b"p".as_slice() && bytes.as_bytes() == b"abc".as_slice())
-    );
-    assert!(rt;
-        matches!(calls.get(3), Some(Call::Length { at }) if at.as_bytes() == b"p".as_slice())
-    );
-    assert!(rt;
-        matches!(calls.get(4), Some(Call::Read { at, amount: 3, offset: 1 }) if at.as_bytes() == b"p".as_slice())
-    );
-    assert!(rt; matches!(calls.get(5), Some(Call::Commit)));
-    Ok(())
 }

@@ -1,5 +1,5 @@
-//! Each source and sink, called from outside through its trait.
-use crate::{Failed, MemSink, MemSource, Sink, Source, StdStream, SureSink, SureSource};
+//! Sources and sinks over those of std, through their traits.
+use sf_outside::{Failed, Sink, Source, StdStream};
 use std::io;
 use std::io::{ErrorKind, Read, Write};
 use std::process::Abort;
@@ -26,61 +26,6 @@ fn expect_write<K: Sink>(
 ) {
     let answer = sink.write(piece);
     assert_eq!(rt; answer, wanted);
-}
-
-#[test]
-fn a_memory_source_gives_pieces_and_fails_where_told(rt: HostRuntime) -> Result<(), Fail> {
-    let bytes = b"abcdefg".to_vec(rt.alloc())?;
-    let failing = [2, 3].to_vec(rt.alloc())?;
-    let mut source = MemSource::new(bytes, 3, failing);
-    expect_read(&rt, &mut source, (Ok(3), *b"abc."));
-    expect_read(&rt, &mut source, (Err(Failed), *b"...."));
-    expect_read(&rt, &mut source, (Err(Failed), *b"...."));
-    expect_read(&rt, &mut source, (Ok(3), *b"def."));
-    expect_read(&rt, &mut source, (Ok(1), *b"g..."));
-    expect_read(&rt, &mut source, (Ok(0), *b"...."));
-
-    let bytes = b"abcdef".to_vec(rt.alloc())?;
-    let mut source = MemSource::new(bytes, 9, Vec::new(rt.alloc()));
-    expect_read(&rt, &mut source, (Ok(4), *b"abcd"));
-    expect_read(&rt, &mut source, (Ok(2), *b"ef.."));
-    Ok(())
-}
-
-#[test]
-fn a_memory_sink_takes_pieces_and_fails_where_told(rt: HostRuntime) -> Result<(), Fail> {
-    let failing = [1, 4].to_vec(rt.alloc())?;
-    let Ok(mut sink) = MemSink::new(rt.alloc(), 5, 3, failing) else {
-        return Err("there is memory for five bytes".into());
-    };
-    expect_write(&rt, &mut sink, b"abcd", Err(Failed));
-    assert_eq!(rt; sink.bytes(), b"".as_slice());
-    expect_write(&rt, &mut sink, b"abcd", Ok(3));
-    expect_write(&rt, &mut sink, b"", Ok(0));
-    expect_write(&rt, &mut sink, b"d", Err(Failed));
-    assert_eq!(rt; sink.bytes(), b"abc".as_slice());
-    expect_write(&rt, &mut sink, b"def", Ok(3));
-    expect_write(&rt, &mut sink, b"g", Ok(1));
-    assert_eq!(rt; sink.bytes(), b"abcde".as_slice());
-    Ok(())
-}
-
-#[test]
-fn a_sure_source_and_a_sure_sink_never_fail(rt: HostRuntime) -> Result<(), Fail> {
-    let mut source = SureSource::new(b"abcdef".to_vec(rt.alloc())?);
-    expect_read(&rt, &mut source, (Ok(4), *b"abcd"));
-    expect_read(&rt, &mut source, (Ok(2), *b"ef.."));
-    expect_read(&rt, &mut source, (Ok(0), *b"...."));
-
-    let Ok(mut sink) = SureSink::new(rt.alloc(), 5) else {
-        return Err("there is memory for five bytes".into());
-    };
-    expect_write(&rt, &mut sink, b"abcd", Ok(4));
-    expect_write(&rt, &mut sink, b"", Ok(0));
-    assert_eq!(rt; sink.bytes(), b"abcd".as_slice());
-    expect_write(&rt, &mut sink, b"efgh", Ok(4));
-    assert_eq!(rt; sink.bytes(), b"abcde".as_slice());
-    Ok(())
 }
 
 // Gives two bytes a call, and fails at its second call.

@@ -1,7 +1,5 @@
 //! The words, as a process is given them.
-use crate::exit::exit_code;
-use crate::status::Status;
-use crate::words::read_words;
+use sf_program::{Status, exit_code, read_words};
 use std::io;
 use std::io::ErrorKind;
 use std::process::ExitCode;
