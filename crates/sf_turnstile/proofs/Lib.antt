@@ -1,0 +1,12 @@
+pub mod ListLemmas
+pub mod EntryLemmas
+pub mod TicketLemmas
+pub mod RuleLemmas
+pub mod DrawLemmas
+pub mod LookLemmas
+pub mod HandOnLemmas
+pub mod SplitLemmas
+pub mod JoinLemmas
+pub mod OpeningLemmas
+pub mod ClosingLemmas
+pub mod SittingLemmas
