@@ -12,7 +12,7 @@ use Rattle.sf_types.proofs.BoolLemmas.{or-true}
 use Rattle.sf_types.proofs.RunLemmas.{no_run}
 use Rattle.sf_block_space.specs.Free.{AreFreeRuns, AreOut, FreeSpace, has_block}
 use Rattle.sf_block_space.specs.Inside.{BeginsFrom, IsOffsetOf}
-use Rattle.sf_block_space.proofs.MemberLemmas.{is_among, in-range, has-cons}
+use Rattle.sf_block_space.proofs.MemberLemmas.{is_block_in, in-range, has-cons}
 use Rattle.sf_block_space.proofs.OrderLemmas.{past, past-last, run-within}
 
 -- the blocks of the run at an offset
@@ -21,7 +21,7 @@ has-at [] at block d within from to = absurd (omega (arith, within))
 has-at (run ∷ runs) zero block d within from to =
     has-cons run runs block ∙ ap (λ x. x || has_block runs block) (in-range run.first run.blocks block from to)
 has-at (run ∷ runs) (suc at) block d within from to =
-    has-cons run runs block ∙ or-true (is_among (blocks_in_run run) block) (has_block runs block) (has-at runs at block d (omega (arith, within)) from to)
+    has-cons run runs block ∙ or-true (is_block_in (blocks_in_run run) block) (has_block runs block) (has-at runs at block d (omega (arith, within)) from to)
 
 -- no block of a run that is out is free
 out-apart : (space : FreeSpace) (run : Run) (block : ℕ) → AreOut space (blocks_in_run run) → run.first ≤ block → block < run.first + run.blocks → has_block space.runs block ≡ false

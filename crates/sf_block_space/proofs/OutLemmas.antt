@@ -12,10 +12,10 @@ use Rattle.sf_types.specs.Rooms.{Roomy}
 use Rattle.sf_types.proofs.BoolLemmas.{or-last, or-true, neither-first}
 use Rattle.sf_block_space.specs.Free.{AreOut, FreeSpace, Gains, has_block}
 use Rattle.sf_block_space.specs.Inside.{HandsOut}
-use Rattle.sf_block_space.proofs.MemberLemmas.{is_among, item-among, has-append, pairs-append}
+use Rattle.sf_block_space.proofs.MemberLemmas.{is_block_in, item-among, has-append, pairs-append}
 
 -- a free block is none of those that are out
-pub free-not-out : (space : FreeSpace) (blocks : List ℕ) (block : ℕ) → AreOut space blocks → has_block space.runs block ≡ true → is_among blocks block ≡ false
+pub free-not-out : (space : FreeSpace) (blocks : List ℕ) (block : ℕ) → AreOut space blocks → has_block space.runs block ≡ true → is_block_in blocks block ≡ false
 free-not-out space blocks block out free =
     list_any_none (nat_eq block) blocks
     (λ k d less.

@@ -5,7 +5,7 @@ use Rattle.sf_types.specs.declared.run.Run.{Run}
 use Rattle.sf_types.specs.Space.BlockRuns.{blocks_in_run}
 use Rattle.sf_block_space.specs.Free.{AreFreeRuns, AreFreeRunsFrom, has_block}
 use Rattle.sf_types.proofs.BoolLemmas.{none-of-both}
-use Rattle.sf_block_space.proofs.MemberLemmas.{is_among, in-range, out-of-range, has-cons, none-below}
+use Rattle.sf_block_space.proofs.MemberLemmas.{is_block_in, in-range, out-of-range, has-cons, none-below}
 
 -- the blocks of the first run
 has-first : (run : Run) (runs : List Run) (block : ℕ) → run.first ≤ block → block < run.first + run.blocks → has_block (run ∷ runs) block ≡ true
@@ -20,7 +20,7 @@ none-before-first from capacity run runs block free less =
 none-at-end : (from capacity : ℕ) (run : Run) (runs : List Run) → AreFreeRunsFrom from capacity (run ∷ runs) → has_block (run ∷ runs) (run.first + run.blocks) ≡ false
 none-at-end from capacity run runs free =
     has-cons run runs (run.first + run.blocks)
-    ∙ none-of-both (is_among (blocks_in_run run) (run.first + run.blocks)) (has_block runs (run.first + run.blocks))
+    ∙ none-of-both (is_block_in (blocks_in_run run) (run.first + run.blocks)) (has_block runs (run.first + run.blocks))
     (out-of-range run.first run.blocks (run.first + run.blocks) (inr (omega arith)))
     (none-below (run.first + run.blocks + 1) capacity runs (run.first + run.blocks) free.3 (omega arith))
 

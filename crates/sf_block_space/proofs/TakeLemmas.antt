@@ -13,7 +13,7 @@ use Rattle.sf_types.proofs.ListLemmas.{parts-at}
 use Rattle.sf_types.proofs.RunLemmas.{blocks-within, run-split}
 use Rattle.sf_block_space.specs.Free.{AreFreeRuns, AreFreeRunsFrom, AreOut, Gains, has_block}
 use Rattle.sf_block_space.specs.Inside.{IsNext, IsTaken}
-use Rattle.sf_block_space.proofs.MemberLemmas.{is_among, out-of-range, has-append, has-cons, range-once, none-below, none-before, gains-from}
+use Rattle.sf_block_space.proofs.MemberLemmas.{is_block_in, out-of-range, has-append, has-cons, range-once, none-below, none-before, gains-from}
 use Rattle.sf_block_space.proofs.OrderLemmas.{free-from-before, behind, past, run-within, with-others}
 
 -- what a run that was taken has changed
@@ -77,7 +77,7 @@ front-taken capacity before after run n less free =
           ∙ none-of-both (has_block before block) (has_block (rest_of run n ∷ after) block)
           (none-before 0 capacity before run after block free from)
           (has-cons (rest_of run n) after block
-          ∙ none-of-both (is_among rest block) (has_block after block)
+          ∙ none-of-both (is_block_in rest block) (has_block after block)
           (out-of-range (run.first + n) (run.blocks - n) block (inl to))
           (none-below (run.first + run.blocks + 1) capacity after block old.3 (omega (arith, to, less)))));
       size = omega (arith, length-append before (rest_of run n ∷ after), length-append before (run ∷ after));

@@ -35,10 +35,9 @@ first_history =
 abbrev sum_of_abc : List ℕ
 sum_of_abc = encode_lower (sha256 (codes "abc"))
 
--- The transcript of the first path, line by line: the commit's promise is marked in the order, the content stands in the first
--- block, and the object of the row a has three bytes. A digest doesn't unfold; all else is written out.
-abbrev pub first_transcript : List ℕ
-first_transcript =
+-- The lines of the first path's transcript up to the digest of its content: the commit's promise is marked in the order.
+abbrev pub first_lines : List ℕ
+first_lines =
     codes "transcript 1" ++ 10
     ∷ codes "order 1 1 1 1 1 1+ 1 1" ++ 10
     ∷ codes "1.1 ok" ++ 10
@@ -48,7 +47,13 @@ first_transcript =
     ∷ codes "1.5 x616263" ++ 10
     ∷ codes "1.6 commit 1" ++ 10
     ∷ codes "1.7 end" ++ 10
-    ∷ codes "place 1 3 " ++ sum_of_abc ++ codes " 0+1" ++ 10
+    ∷ codes "place 1 3 "
+
+-- The whole transcript: the content stands in the first block, and the object of the row a has three bytes. A digest
+-- doesn't unfold; all else is written out.
+abbrev pub first_transcript : List ℕ
+first_transcript =
+    first_lines ++ sum_of_abc ++ codes " 0+1" ++ 10
     ∷ codes "free 1023" ++ 10
     ∷ codes "row a 3 " ++ sum_of_abc ++ 10
     ∷ codes "now 1" ++ 10 ∷ []

@@ -60,13 +60,13 @@ some_count q (x ∷ xs) is =
 pub below : (q n : ℕ) → 1 ≤ cond (nat_lt q n) 1 0 → q < n
 below q n some = grind (arith, nat_tests, some)
 
-pub at_most_one : (q n : ℕ) → cond (nat_lt q n) 1 0 ≤ 1
-at_most_one q n = grind (arith, nat_tests)
+pub once_below : (q n : ℕ) → cond (nat_lt q n) 1 0 ≤ 1
+once_below q n = grind (arith, nat_tests)
 
 pub few_numbers : (xs : List ℕ) (n : ℕ) → ((x : ℕ) → count_by (λ y. x == y) xs ≤ cond (nat_lt x n) 1 0) → length xs ≤ n
 few_numbers xs n most =
     length-le_from_distinct_below xs n
-    (distinct xs (λ x. omega (arith, most x, at_most_one x n)))
+    (distinct xs (λ x. omega (arith, most x, once_below x n)))
     (λ q some. below q n (omega (arith, most q, some_count q xs some)))
 
 -- the blocks of all places

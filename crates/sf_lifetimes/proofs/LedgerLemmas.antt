@@ -164,8 +164,8 @@ exchanged_runs m p old new few held changed q =
       | false ↦ λ t. same
     ] refl
 
-pub places_after : (m p : CountedMap) (old new : List ℕ) → AreFew m new → AreHeld m old → AreExchanged m old new p → places_in p ≡ fin.retain_keys (places_in m) (λ b. not (has_birth (lone_births m new old) b))
-places_after m p old new few held changed = same_map nat_cmp_total nat_cmp-IsAntisymmetric _ _ (λ q.
+pub places_exchanged : (m p : CountedMap) (old new : List ℕ) → AreFew m new → AreHeld m old → AreExchanged m old new p → places_in p ≡ fin.retain_keys (places_in m) (λ b. not (has_birth (lone_births m new old) b))
+places_exchanged m p old new few held changed = same_map nat_cmp_total nat_cmp-IsAntisymmetric _ _ (λ q.
     let test : ℕ → Bool = λ b. (holders_in (fin.get m b) + cond (has_birth new b) 1 0) == 1 in
     get_places p q
     ∙ exchanged_runs m p old new few held changed q
@@ -198,7 +198,7 @@ module _ (m : CountedMap) (h : Holdings) (holder : Holder) (births old : List �
 
     pub places_now : places_in p ≡ (with_holding (record { places = places_in m; holdings = h }) holder births).places
     places_now =
-        places_after m p old births few held_now changed
+        places_exchanged m p old births few held_now changed
         ∙ ap (λ bs. fin.retain_keys (places_in m) (λ b. not (has_birth bs b))) lone_now
 
 -- ---- the live places and those that wait

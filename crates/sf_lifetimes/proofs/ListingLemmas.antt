@@ -25,7 +25,7 @@ use Rattle.sf_lifetimes.specs.Ledgers.{has_birth, occupied_blocks}
 use Rattle.sf_lifetimes.specs.Inside.Counts.{CountedMap, IsCounted, live_runs, or_else, times}
 use Rattle.sf_lifetimes.specs.Inside.Counted.{live_places_in, waiting_places_in}
 use Rattle.sf_lifetimes.proofs.MapSumLemmas.{weight, same_sum}
-use Rattle.sf_lifetimes.proofs.CountLemmas.{distinct, below, at_most_one}
+use Rattle.sf_lifetimes.proofs.CountLemmas.{distinct, below, once_below}
 use Rattle.sf_lifetimes.proofs.LedgerLemmas.{waiting_runs, get_live, get_waiting}
 use Rattle.sf_types.proofs.NameMapLemmas.{ordering_less, sorted_from_ordered}
 
@@ -103,7 +103,7 @@ are_placed m live counted =
     record {
       births = subst IsRising (sym (listed_births es)) (rising_keys es (entries_sorted (live_places_in m)));
       below = subst (All (λ block. block < 2 ^ 32)) (sym (listed_blocks es)) (All-from_recursion (λ block. block < 2 ^ 32) xs (all_below (2 ^ 32) xs most));
-      once = subst (AllPairs (λ x y. x ≢ y)) (sym (listed_blocks es)) (AllPairs-from_IsDistinct unsigned_Decides xs (distinct xs (λ x. omega (arith, counted.once x, times_in m x, at_most_one x (2 ^ 32)))));
+      once = subst (AllPairs (λ x y. x ≢ y)) (sym (listed_blocks es)) (AllPairs-from_IsDistinct unsigned_Decides xs (distinct xs (λ x. omega (arith, counted.once x, times_in m x, once_below x (2 ^ 32)))));
     }
 
 -- ---- the tree of live places

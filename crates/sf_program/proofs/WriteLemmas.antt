@@ -16,8 +16,8 @@ pub begins : (taken : Option (List ℕ)) (faults : ℕ) (text : List ℕ) → Is
 begins taken faults text = record { done = []; parts = refl; grew = grows_by_nothing taken; steady = refl }
 
 -- one write goes on
-pub goes_on : (before between after : Option (List ℕ)) (faults now then : ℕ) (text rest : List ℕ) (n : ℕ) → IsWritten before between faults now text rest → GrowsBy between after (take n rest) → then ≡ now → IsWritten before after faults then text (drop n rest)
-goes_on before between after faults now then text rest n written grew same = record {
+pub written_further : (before between after : Option (List ℕ)) (faults now then : ℕ) (text rest : List ℕ) (n : ℕ) → IsWritten before between faults now text rest → GrowsBy between after (take n rest) → then ≡ now → IsWritten before after faults then text (drop n rest)
+written_further before between after faults now then text rest n written grew same = record {
   done = written.done ++ take n rest;
   parts = written.parts ∙ ap (λ (xs : List ℕ). written.done ++ xs) (sym (take-append-drop n rest)) ∙ sym (append_assoc written.done (take n rest) (drop n rest));
   grew = grows_by_both before between after written.done (take n rest) written.grew grew;
@@ -25,8 +25,8 @@ goes_on before between after faults now then text rest n written grew same = rec
 }
 
 -- a write that failed leaves a front
-pub stopped : (before between : Option (List ℕ)) (faults now : ℕ) (text rest : List ℕ) → IsWritten before between faults now text rest → GrowsByFront before between text
-stopped before between faults now text rest written =
+pub written_part : (before between : Option (List ℕ)) (faults now : ℕ) (text rest : List ℕ) → IsWritten before between faults now text rest → GrowsByFront before between text
+written_part before between faults now text rest written =
     let front : take (length written.done) text ≡ written.done = ap (take (length written.done)) written.parts ∙ take_at written.done rest (length written.done) refl in
     (length written.done, omega (arith, ap length written.parts, length-append written.done rest), rw front written.grew)
 

@@ -12,7 +12,7 @@ use Rattle.sf_script_calls.specs.declared.call.PayloadCall.TheVariants as wants
 use Rattle.sf_script_calls.specs.CallTable.{call_form}
 use Rattle.sf_script_calls.specs.Calls.{CallForm, Plain, WithPayload, call_with, spelled_call}
 use Rattle.sf_script_calls.specs.Numbers.{number_of}
-use Rattle.sf_script_calls.specs.Payloads.{Payload, Text, Hex, Copies, bytes_of}
+use Rattle.sf_script_calls.specs.Payloads.{bytes_of}
 use Rattle.sf_script_calls.specs.Reads.{◌>>=◌}
 use Rattle.sf_script_calls.specs.Words.{word_at, first_word, is_word}
 use Rattle.sf_script.specs.declared.fault.Reason.TheVariants.{Later, Limit}
@@ -25,7 +25,7 @@ use Rattle.sf_script.specs.LineForms.{LineForm, HeaderLine, SetsOption, Sessions
 use Rattle.sf_script.specs.OptionLines.{is_option_in_range}
 use Rattle.sf_script.specs.Parts.{names_session}
 use Rattle.sf_script.specs.Provisional.Calls.{can_stand}
-use Rattle.sf_script.specs.Provisional.Lines.{is_played_plain, is_played_call, is_later}
+use Rattle.sf_script.specs.Provisional.Lines.{is_played_plain, is_played_payload_call, is_played_call, is_later}
 use Rattle.sf_script.specs.Reasons.{first_reason, form_passes_limit}
 use Rattle.sf_script.specs.Schedules.{session_number, session_of, ends_with_colon, turn_of, turns_of, schedule_words}
 
@@ -110,18 +110,16 @@ plain_stands (calls.Read at amount offset) e = refl
 plain_stands calls.Commit e = refl
 plain_stands _ e = absurd cc
 
-with_stands : (call : PayloadCall) (payload : Payload) → is_played_call (WithPayload call payload) ≡ true → can_stand (call_with call (bytes_of payload)) ≡ true
-with_stands (wants.WriteAppend at) (Text bytes) e = refl
-with_stands (wants.WriteAppend at) (Hex digits) e = absurd cc
-with_stands (wants.WriteAppend at) (Copies number byte) e = absurd cc
-with_stands (wants.Instr at offset) payload e = absurd cc
-with_stands (wants.Write at offset) payload e = absurd cc
-with_stands (wants.FragInsert at offset) payload e = absurd cc
-with_stands (wants.FragReplace at old_amount offset) payload e = absurd cc
+with_stands : (call : PayloadCall) (bytes : List ℕ) → is_played_payload_call call ≡ true → can_stand (call_with call bytes) ≡ true
+with_stands (wants.WriteAppend at) bytes e = refl
+with_stands (wants.Instr at offset) bytes e = absurd cc
+with_stands (wants.Write at offset) bytes e = absurd cc
+with_stands (wants.FragInsert at offset) bytes e = absurd cc
+with_stands (wants.FragReplace at old_amount offset) bytes e = absurd cc
 
 stands : (form : CallForm) → is_played_call form ≡ true → can_stand (spelled_call form) ≡ true
 stands (Plain call) e = plain_stands call e
-stands (WithPayload call payload) e = with_stands call payload e
+stands (WithPayload call payload) e = with_stands call (bytes_of payload) e
 
 -- a form that isn't refused is played and within the limits
 neither : (later limit : Bool) → first_reason ((later, Later) ∷ (limit, Limit) ∷ []) ≡ None → (later ≡ false) × (limit ≡ false)

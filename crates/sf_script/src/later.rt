@@ -2,10 +2,10 @@
 ghost use Rattle.std.specs.Prelude.{◌≡◌};
 ghost use Rattle.sf_script_calls.specs.Views.{call_view};
 ghost use Rattle.sf_script.specs.Inside.Views.{line_view};
-ghost use Rattle.sf_script.specs.Provisional.Lines.{is_played_plain, is_played_call, is_later};
+ghost use Rattle.sf_script.specs.Provisional.Lines.{is_played_plain, is_played_payload_call, is_played_call, is_later};
 
 use crate::line_form::SpelledLine;
-use sf_script_calls::{PayloadCall, SpelledCall, SpelledPayload};
+use sf_script_calls::{PayloadCall, SpelledCall};
 use sf_types::Call;
 
 // Whether the program plays a call without a payload.
@@ -22,16 +22,20 @@ fn is_played_plain(call: &Call) -> bool
     }
 }
 
+// Whether the program plays a call with a payload.
+fn is_played_payload_call(call: &PayloadCall) -> bool
+    ensures { result ≡ is_played_payload_call call.now }
+{
+    matches!(call, PayloadCall::WriteAppend { .. })
+}
+
 // Whether the program plays a call.
 fn is_played_call(call: &SpelledCall) -> bool
     ensures { result ≡ is_played_call (call_view call.now) }
 {
     match call {
         SpelledCall::Plain(call) => is_played_plain(call),
-        SpelledCall::WithPayload(call, payload) => {
-            matches!(call, PayloadCall::WriteAppend { .. })
-                && matches!(payload, SpelledPayload::Text(_))
-        }
+        SpelledCall::WithPayload(call, _) => is_played_payload_call(call),
     }
 }
 

@@ -73,8 +73,8 @@ next-placed places k place less is =
     omega (arith, length-flat_map-take (λ (x : BirthRuns). blocks_in x.runs) places k place less, ap (λ (x : BirthRuns). length (blocks_in x.runs)) is)
 
 -- the blocks of the places so far and of the next one are no more than the capacity
-pub next-fits : (places items : List BirthRuns) (k : ℕ) (place : BirthRuns) (capacity : ℕ) → ArePlaced places capacity → items ≡ places → k < length items → place ≡ get_or items k place → length (blocks_of_places (take k items)) + length (blocks_in place.runs) ≤ capacity
-next-fits places items k place capacity placed same less is =
+pub place-within : (places items : List BirthRuns) (k : ℕ) (place : BirthRuns) (capacity : ℕ) → ArePlaced places capacity → items ≡ places → k < length items → place ≡ get_or items k place → length (blocks_of_places (take k items)) + length (blocks_in place.runs) ≤ capacity
+place-within places items k place capacity placed same less is =
     omega (
       arith,
       ap (λ xs. length (blocks_of_places xs)) same,

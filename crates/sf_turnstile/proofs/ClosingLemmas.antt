@@ -1,5 +1,5 @@
 -- Once all other seats were joined, the value in the slot has the first seat's front.
-use Rattle.std.proofs.Common.{◌≡◌, ℕ, true, false, List, [], ◌∷◌, ◌++◌, Option, Some, Contains, refl, sym, ap, ◌∙◌, subst, arith, ⊎_elim, append-nil}
+use Rattle.std.proofs.Common.{◌≡◌, ℕ, true, false, List, [], ◌∷◌, ◌++◌, Option, Some, refl, sym, ap, ◌∙◌, subst, arith, ⊎_elim, append-nil}
 use mathlib.Core.Option as m
 use mathlib.Core.Logic.{dite}
 use native.Mathlib.Decide.{ℕ_discrete, dec_le}
@@ -13,7 +13,7 @@ use Rattle.sf_turnstile.specs.declared.view.View.{View}
 use Rattle.sf_turnstile.specs.Rule.{is_out, seats_out, TurnstileRule}
 use Rattle.sf_turnstile.proofs.ListLemmas.{same_at, at_some}
 use Rattle.sf_turnstile.proofs.EntryLemmas.{empty_of_none, prefix_none, rest_none}
-use Rattle.sf_turnstile.proofs.RuleLemmas.{joined_all, two_out}
+use Rattle.sf_turnstile.proofs.RuleLemmas.{first_fits, two_out}
 
 module _ {B : Type 0} (history_of : B → List Entry) where
   -- at the end the first seat knows the whole history, and the value is at home
@@ -21,13 +21,9 @@ module _ {B : Type 0} (history_of : B → List Entry) where
   closes s id v kept at first_seat idle last =
       let out : is_out v.phase ≡ true = ap is_out idle in
       let mine = kept.seats id v at out in
-      let zero_id : id ≡ 0 = sym mine.number ∙ first_seat in
-      let front = kept.first in
-      let f = front.2 in
-      let is : front.0 ≡ v = same_at s.views 0 front.0 v front.1 (subst (λ (k : ℕ). get_elem? s.views k ≡ m.some v) zero_id at) in
-      let sp : front.0.splits ≡ v.splits = ap (λ (u : View). u.splits) is in
-      let ou : front.0.others_out ≡ v.others_out = ap (λ (u : View). u.others_out) is in
-      let jo : front.0.joined_numbers ≡ v.joined_numbers = ap (λ (u : View). u.joined_numbers) is in
+      let first = first_fits history_of s kept id v at out first_seat in
+      let zero_id = first.0 in
+      let f = first.1 in
       let f1 = f.splits in let f3 = f.others in
       let one : seats_out s.views ≡ 1 = omega arith in
       let h : List Entry = kept.history in
@@ -38,7 +34,7 @@ module _ {B : Type 0} (history_of : B → List Entry) where
       (λ le.
       let there = at_some s.views n (omega arith) in
       let off : is_out there.0.phase ≡ false = is_off there.0.phase (λ on. let t = two_out s.views id n v there.0 ne at there.1 out on in absurd (omega arith)) in
-      joined_all h s.views id v at kept.first zero_id n (subst (λ (l : List ℕ). Contains l n) jo (f.spent n there.0 there.1 off)))
+      f.joined n (f.spent n there.0 there.1 off))
       (λ past. let none = f.unmade n (omega arith) in prefix_none n v.front h mine.front none ∙ sym none)) in
       let rest : mine.front.0 ≡ [] = empty_of_none mine.front.0 (λ n. rest_none n v.front h mine.front (all n)) in
       let whole : h ≡ v.front = sym mine.front.1 ∙ (ap (λ (l : List Entry). v.front ++ l) rest ∙ append-nil v.front) in

@@ -15,7 +15,7 @@ use Rattle.sf_turnstile.specs.Rule.{has_ticket, is_out, tickets_out, ticket_at, 
 use Rattle.sf_turnstile.specs.Steps.{view_with_ticket, Draws}
 use Rattle.sf_turnstile.proofs.ListLemmas.{same_at, all_changed, sum_changed}
 use Rattle.sf_turnstile.proofs.TicketLemmas.{ticket_here, ticket_else, ticket_set}
-use Rattle.sf_turnstile.proofs.RuleLemmas.{number_of, ticket_rank, few_tickets, joined_all, first_step, not_idle_holds, slot_else}
+use Rattle.sf_turnstile.proofs.RuleLemmas.{ticket_or_zero, ticket_rank, few_tickets, joined_all, first_step, not_idle_holds, slot_else}
 
 -- a seat's phase where one more has drawn
 more_drawn : (h : List Entry) (sv d : ℕ) (f : List Entry) (p : Phase) → FitsPhase h sv d f p → FitsPhase h sv (d + 1) f p
@@ -58,10 +58,10 @@ module _ {B : Type 0} (history_of : B → List Entry) where
             ⊎_elim
             (λ (x : (i ≡ id) × (Some found ≡ Some t)). ⊎_elim
             (λ (y : (j ≡ id) × (Some found ≡ Some t)). x.0 ∙ sym y.0)
-            (λ (y : (j ≢ id) × HasTicket s.views j t). absurd (new_ticket j (subst (λ (n : ℕ). HasTicket s.views j n) (sym (ap number_of x.1)) y.1)))
+            (λ (y : (j ≢ id) × HasTicket s.views j t). absurd (new_ticket j (subst (λ (n : ℕ). HasTicket s.views j n) (sym (ap ticket_or_zero x.1)) y.1)))
             (ticket_set s.views id j t w b))
             (λ (x : (i ≢ id) × HasTicket s.views i t). ⊎_elim
-            (λ (y : (j ≡ id) × (Some found ≡ Some t)). absurd (new_ticket i (subst (λ (n : ℕ). HasTicket s.views i n) (sym (ap number_of y.1)) x.1)))
+            (λ (y : (j ≡ id) × (Some found ≡ Some t)). absurd (new_ticket i (subst (λ (n : ℕ). HasTicket s.views i n) (sym (ap ticket_or_zero y.1)) x.1)))
             (λ (y : (j ≢ id) × HasTicket s.views j t). kept.unique i j t x.1 y.1)
             (ticket_set s.views id j t w b))
             (ticket_set s.views id i t w a);

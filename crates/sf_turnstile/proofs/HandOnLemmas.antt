@@ -16,7 +16,7 @@ use Rattle.sf_turnstile.specs.Continuations.{Continues}
 use Rattle.sf_turnstile.proofs.ListLemmas.{same_at, all_changed, sum_changed}
 use Rattle.sf_turnstile.proofs.EntryLemmas.{grown, prefix_self, prefix_trans}
 use Rattle.sf_turnstile.proofs.TicketLemmas.{ticket_else, ticket_set}
-use Rattle.sf_turnstile.proofs.RuleLemmas.{number_of, few_tickets, one_home, first_step}
+use Rattle.sf_turnstile.proofs.RuleLemmas.{ticket_or_zero, few_tickets, one_home, first_step}
 
 -- a tickets_out seat's phase after the seat before it has view_handed_on on
 phase_after : (h h' : List Entry) (sv d d' : ℕ) (f : List Entry) (p : Phase) → sv < 2 ^ 64 → d' + 1 ≡ d → d ≤ TURNSTILE_SPLITS + 1 → ticket_of p ≢ Some sv → FitsPhase h sv d f p → FitsPhase h' ((sv + 1) % 2 ^ 64) d' f p
@@ -28,7 +28,7 @@ phase_after h h' sv d d' f (Holds t) small one most ne fits = absurd (ne (ap Som
 phase_after h h' sv d d' f Spent small one most ne fits = absurd fits
 
 some_is : (x y : ℕ) → Some x ≡ Some y → x ≡ y
-some_is x y e = ap number_of e
+some_is x y e = ap ticket_or_zero e
 
 module _ {B : Type 0} (history_of : B → List Entry) where
   pub hands_keep : (s : State (Option B) View) (id t : ℕ) (v : View) (b : B) → v.phase ≡ Holds t → Continues v.number v.front (history_of b) → TurnstileRule history_of s → get_elem? s.views id ≡ m.some v

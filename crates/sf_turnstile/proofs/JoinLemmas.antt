@@ -15,7 +15,7 @@ use Rattle.sf_turnstile.specs.Steps.{longer, view_after_join, spent_view, Compar
 use Rattle.sf_turnstile.proofs.ListLemmas.{at_changed, at_unchanged, same_at, all_changed, sum_changed, contains_cons, contains_first, contains_more}
 use Rattle.sf_turnstile.proofs.EntryLemmas.{prefix_self, prefix_shorter, between}
 use Rattle.sf_turnstile.proofs.TicketLemmas.{ticket_else, ticket_set}
-use Rattle.sf_turnstile.proofs.RuleLemmas.{joined_all, two_out, not_idle_holds, slot_else, unchanged_keeps}
+use Rattle.sf_turnstile.proofs.RuleLemmas.{first_fits, two_out, not_idle_holds, slot_else, unchanged_keeps}
 
 -- of two lists the longer
 longer_is : (xs ys : List Entry) (P : List Entry → Type 0) → (length xs ≤ length ys → P ys) → (length ys ≤ length xs → P xs) → P (longer xs ys)
@@ -36,13 +36,9 @@ module _ {B : Type 0} (history_of : B → List Entry) where
       let at' : get_elem? s.views other ≡ m.some w = sym (set_else s.views id other both apart) ∙ there in
       let mine = kept.seats id v at out in
       let theirs = kept.seats other w at' out' in
-      let zero_id : id ≡ 0 = sym mine.number ∙ first_seat in
-      let front = kept.first in
-      let f = front.2 in
-      let is : front.0 ≡ v = same_at s.views 0 front.0 v front.1 (subst (λ (k : ℕ). get_elem? s.views k ≡ m.some v) zero_id at) in
-      let sp : front.0.splits ≡ v.splits = ap (λ (u : View). u.splits) is in
-      let ou : front.0.others_out ≡ v.others_out = ap (λ (u : View). u.others_out) is in
-      let jo : front.0.joined_numbers ≡ v.joined_numbers = ap (λ (u : View). u.joined_numbers) is in
+      let first = first_fits history_of s kept id v at out first_seat in
+      let zero_id = first.0 in
+      let f = first.1 in
       let f1 = f.splits in let f2 = f.most in let f3 = f.others in
       let h : List Entry = kept.history in
       let has : View → ℕ = λ u. cond {A = ℕ} (has_ticket u.phase) 1 0 in
@@ -65,7 +61,7 @@ module _ {B : Type 0} (history_of : B → List Entry) where
         seats = all_changed (λ j u. is_out u.phase ≡ true → FitsSeat h kept.serving (tickets_out two) j u) one other spent_view
             (λ j u ne e o. all_changed (λ j u. is_out u.phase ≡ true → FitsSeat h kept.serving (tickets_out two) j u) s.views id both
             (λ j u ne e o. let fits = kept.seats j u e o in record { number = fits.number; alone = fits.alone; front = fits.front; own = fits.own; phase = subst (λ (n : ℕ). FitsPhase h kept.serving n u.front u.phase) (sym wait) fits.phase; after_join = fits.after_join })
-            (λ o. record { number = mine.number; alone = λ lt. absurd (omega arith); front = whole; own = between id v.front (longer v.front w.front) h from_v whole mine.own; phase = subst (FitsPhase h kept.serving (tickets_out two) (longer v.front w.front)) (sym idle) tt; after_join = λ _. record { before = from_v; other = from_w; own = let e = between w.number w.front (longer v.front w.front) h from_w whole (subst (λ (k : ℕ). entries_of k w.front ≡ entries_of k h) (sym theirs.number) theirs.own) in e ∙ sym (subst (λ (k : ℕ). entries_of k w.front ≡ entries_of k h) (sym theirs.number) theirs.own); joined = λ n c. let all = joined_all h s.views id v at kept.first zero_id n c in between n v.front (longer v.front w.front) h from_v whole all ∙ sym all } })
+            (λ o. record { number = mine.number; alone = λ lt. absurd (omega arith); front = whole; own = between id v.front (longer v.front w.front) h from_v whole mine.own; phase = subst (FitsPhase h kept.serving (tickets_out two) (longer v.front w.front)) (sym idle) tt; after_join = λ _. record { before = from_v; other = from_w; own = let e = between w.number w.front (longer v.front w.front) h from_w whole (subst (λ (k : ℕ). entries_of k w.front ≡ entries_of k h) (sym theirs.number) theirs.own) in e ∙ sym (subst (λ (k : ℕ). entries_of k w.front ≡ entries_of k h) (sym theirs.number) theirs.own); joined = λ n c. let all = f.joined n c in between n v.front (longer v.front w.front) h from_v whole all ∙ sym all } })
             j u e o)
             (λ o. absurd (true≢false (sym o)));
         unique = λ i j t a b. kept.unique i j t (old i t a) (old j t b);
@@ -86,18 +82,18 @@ module _ {B : Type 0} (history_of : B → List Entry) where
             others = omega arith;
             joined = λ n c. ⊎_elim
                 (λ (e : n ≡ w.number). between n w.front (longer v.front w.front) h from_w whole (subst (λ (k : ℕ). entries_of k w.front ≡ entries_of k h) (sym (e ∙ theirs.number)) theirs.own))
-                (λ (c' : Contains v.joined_numbers n). between n v.front (longer v.front w.front) h from_v whole (joined_all h s.views id v at kept.first zero_id n c'))
+                (λ (c' : Contains v.joined_numbers n). between n v.front (longer v.front w.front) h from_v whole (f.joined n c'))
                 (contains_cons w.number n v.joined_numbers c);
             spent = all_changed (λ j u. is_out u.phase ≡ false → Contains (w.number ∷ v.joined_numbers) j) one other spent_view
                 (λ j u ne e off. all_changed (λ j u. is_out u.phase ≡ false → Contains (w.number ∷ v.joined_numbers) j) s.views id both
-                (λ j u ne e off. contains_more w.number j v.joined_numbers (subst (λ (l : List ℕ). Contains l j) jo (f.spent j u e off)))
+                (λ j u ne e off. contains_more w.number j v.joined_numbers (f.spent j u e off))
                 (λ off. absurd (true≢false (sym out ∙ off)))
                 j u e off)
                 (λ _. subst (Contains (w.number ∷ v.joined_numbers)) theirs.number (contains_first w.number v.joined_numbers));
             joined_spent = λ j c. ⊎_elim
                 (λ (e : j ≡ w.number). (spent_view, subst (λ (k : ℕ). get_elem? two k ≡ m.some spent_view) (sym (e ∙ theirs.number)) (at_changed one other w spent_view there), refl))
                 (λ (c' : Contains v.joined_numbers j).
-                let gone = f.joined_spent j (subst (λ (l : List ℕ). Contains l j) (sym jo) c') in
+                let gone = f.joined_spent j c' in
                 let not_id : j ≢ id = λ e. absurd (true≢false (sym out ∙ (ap (λ (u : View). is_out u.phase) (same_at s.views id v gone.0 at (subst (λ (k : ℕ). get_elem? s.views k ≡ m.some gone.0) e gone.1)) ∙ gone.2))) in
                 let not_other : j ≢ other = λ e. absurd (true≢false (sym out' ∙ (ap (λ (u : View). is_out u.phase) (same_at s.views other w gone.0 at' (subst (λ (k : ℕ). get_elem? s.views k ≡ m.some gone.0) e gone.1)) ∙ gone.2))) in
                 (gone.0, at_unchanged one other j gone.0 spent_view not_other (at_unchanged s.views id j gone.0 both not_id gone.1), gone.2))

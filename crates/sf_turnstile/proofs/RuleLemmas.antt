@@ -15,21 +15,21 @@ use Rattle.sf_turnstile.specs.declared.limits.TheConstants.{TURNSTILE_SPLITS}
 use Rattle.sf_turnstile.specs.declared.view.Phase.{Phase}
 use Rattle.sf_turnstile.specs.declared.view.Phase.TheVariants.{Idle, Waits, Holds, Spent}
 use Rattle.sf_turnstile.specs.declared.view.View.{View}
-use Rattle.sf_turnstile.specs.Rule.{ticket_of, has_ticket, is_out, tickets_out, seats_out, ticket_at, FitsPhase, HasFirst, HasTicket, InSlot, TurnstileRule}
+use Rattle.sf_turnstile.specs.Rule.{ticket_of, has_ticket, is_out, tickets_out, seats_out, ticket_at, FitsFirst, FitsPhase, HasFirst, HasTicket, InSlot, TurnstileRule}
 use Rattle.sf_turnstile.specs.Steps.{spent_view}
 use Rattle.sf_turnstile.proofs.ListLemmas.{at_within, at_changed, at_unchanged, same_at, all_changed, sum_changed, sum_at_least}
 use Rattle.sf_turnstile.proofs.TicketLemmas.{ticket_here, ticket_else, ticket_set}
 
-abbrev pub number_of : Option ℕ → ℕ
-number_of None = 0
-number_of (Some t) = t
+abbrev pub ticket_or_zero : Option ℕ → ℕ
+ticket_or_zero None = 0
+ticket_or_zero (Some t) = t
 
 -- a ticket that is out has a rank among those from the served one on
-pub rank_of : (h : List Entry) (sv d : ℕ) (f : List Entry) (p : Phase) (t : ℕ) → sv < 2 ^ 64 → FitsPhase h sv d f p → ticket_of p ≡ Some t → (k : ℕ) × (k < d) × (t ≡ ticket_at sv k)
-rank_of h sv d f Idle t small fits e = absurd (cc e)
-rank_of h sv d f (Waits u) t small fits e = let is : u ≡ t = cc e in (fits.0, fits.1, sym is ∙ fits.2)
-rank_of h sv d f (Holds u) t small fits e = let is : u ≡ t = cc e in (0, fits.0, sym is ∙ (fits.1 ∙ omega arith))
-rank_of h sv d f Spent t small fits e = absurd fits
+pub waiting_rank : (h : List Entry) (sv d : ℕ) (f : List Entry) (p : Phase) (t : ℕ) → sv < 2 ^ 64 → FitsPhase h sv d f p → ticket_of p ≡ Some t → (k : ℕ) × (k < d) × (t ≡ ticket_at sv k)
+waiting_rank h sv d f Idle t small fits e = absurd (cc e)
+waiting_rank h sv d f (Waits u) t small fits e = let is : u ≡ t = cc e in (fits.0, fits.1, sym is ∙ fits.2)
+waiting_rank h sv d f (Holds u) t small fits e = let is : u ≡ t = cc e in (0, fits.0, sym is ∙ (fits.1 ∙ omega arith))
+waiting_rank h sv d f Spent t small fits e = absurd fits
 
 -- who has a ticket isn't spent, and counts among those that wait
 pub out_of_ticket : (p : Phase) (t : ℕ) → ticket_of p ≡ Some t → (is_out p ≡ true) × (has_ticket p ≡ true)
@@ -44,7 +44,7 @@ module _ {B : Type 0} (history_of : B → List Entry) where
 
   -- the place of a ticket that a seat has
   pub ticket_rank : (s : St) (kept : TurnstileRule history_of s) (id t : ℕ) → HasTicket s.views id t → (k : ℕ) × (k < tickets_out s.views) × (t ≡ ticket_at kept.serving k)
-  ticket_rank s kept id t h = let o = out_of_ticket h.0.phase t h.2 in rank_of kept.history kept.serving (tickets_out s.views) h.0.front h.0.phase t kept.small (kept.seats id h.0 h.1 o.0).phase h.2
+  ticket_rank s kept id t h = let o = out_of_ticket h.0.phase t h.2 in waiting_rank kept.history kept.serving (tickets_out s.views) h.0.front h.0.phase t kept.small (kept.seats id h.0 h.1 o.0).phase h.2
 
   -- no more seats wait than there are seats
   pub few_tickets : (s : St) → TurnstileRule history_of s → (tickets_out s.views ≤ length s.views) × (length s.views ≤ TURNSTILE_SPLITS + 1)
@@ -53,6 +53,13 @@ module _ {B : Type 0} (history_of : B → List Entry) where
   -- the slots are one
   pub one_home : (h : List Entry) (sv : ℕ) (homes : List (m.Option (Option B))) (views : List View) → InSlot history_of h sv homes views → (x : m.Option (Option B)) × (homes ≡ x ∷ [])
   one_home h sv homes views slot = ⊎_elim (λ (a : (b : B) × (homes ≡ m.some (Some b) ∷ []) × (history_of b ≡ h)). (m.some (Some a.0), a.1)) (λ (a : (id : ℕ) × (v : View) × (homes ≡ m.none ∷ []) × (get_elem? views id ≡ m.some v) × (v.phase ≡ Holds sv)). (m.none, a.2)) slot
+
+-- the view with the number 0 is the first seat's, and the rule says of it what it says of that seat
+pub first_fits : {B : Type 0} (history_of : B → List Entry) (s : State (Option B) View) (kept : TurnstileRule history_of s) (id : ℕ) (v : View) → get_elem? s.views id ≡ m.some v → is_out v.phase ≡ true → v.number ≡ 0 → (id ≡ 0) × FitsFirst kept.history s.views v
+first_fits history_of s kept id v at out first_seat =
+    let zero_id : id ≡ 0 = sym (kept.seats id v at out).number ∙ first_seat in
+    let is : kept.first.0 ≡ v = same_at s.views 0 kept.first.0 v kept.first.1 (subst (λ (k : ℕ). get_elem? s.views k ≡ m.some v) zero_id at) in
+    (zero_id, subst (FitsFirst kept.history s.views) is kept.first.2)
 
 -- what the first seat's front has
 pub joined_all : (h : List Entry) (views : List View) (id : ℕ) (v : View) → get_elem? views id ≡ m.some v → HasFirst h views → id ≡ 0 → (s : ℕ) → Contains v.joined_numbers s → entries_of s v.front ≡ entries_of s h

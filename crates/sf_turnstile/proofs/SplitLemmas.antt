@@ -15,7 +15,7 @@ use Rattle.sf_turnstile.specs.Steps.{view_after_split, next_view}
 use Rattle.sf_turnstile.proofs.ListLemmas.{at_changed, at_unchanged, same_at, all_changed, sum_changed, at_pushed}
 use Rattle.sf_turnstile.proofs.EntryLemmas.{prefix_none}
 use Rattle.sf_turnstile.proofs.TicketLemmas.{ticket_push, ticket_longer}
-use Rattle.sf_turnstile.proofs.RuleLemmas.{joined_all, not_idle_holds, consecutive_same, slot_else, unique_same}
+use Rattle.sf_turnstile.proofs.RuleLemmas.{first_fits, not_idle_holds, consecutive_same, slot_else, unique_same}
 
 module _ {B : Type 0} (history_of : B → List Entry) where
   slot_longer : (h : List Entry) (sv : ℕ) (homes : List (m.Option (Option B))) (views more : List View) → InSlot history_of h sv homes views → InSlot history_of h sv homes (views ++ more)
@@ -28,13 +28,9 @@ module _ {B : Type 0} (history_of : B → List Entry) where
   splits id v first_seat idle room s kept at =
       let out : is_out v.phase ≡ true = ap is_out idle in
       let mine = kept.seats id v at out in
-      let zero_id : id ≡ 0 = sym mine.number ∙ first_seat in
-      let front = kept.first in
-      let f = front.2 in
-      let is : front.0 ≡ v = same_at s.views 0 front.0 v front.1 (subst (λ (k : ℕ). get_elem? s.views k ≡ m.some v) zero_id at) in
-      let sp : front.0.splits ≡ v.splits = ap (λ (u : View). u.splits) is in
-      let ou : front.0.others_out ≡ v.others_out = ap (λ (u : View). u.others_out) is in
-      let jo : front.0.joined_numbers ≡ v.joined_numbers = ap (λ (u : View). u.joined_numbers) is in
+      let first = first_fits history_of s kept id v at out first_seat in
+      let zero_id = first.0 in
+      let f = first.1 in
       let f1 = f.splits in let f3 = f.others in
       let w : View = view_after_split v in
       let one : List View = set s.views id w in
@@ -78,13 +74,13 @@ module _ {B : Type 0} (history_of : B → List Entry) where
             splits = omega arith;
             most = omega arith;
             others = omega arith;
-            joined = joined_all kept.history s.views id v at kept.first zero_id;
+            joined = f.joined;
             spent = λ j u e off. ⊎_elim
-                (λ (there : get_elem? one j ≡ m.some u). all_changed (λ j u. is_out u.phase ≡ false → Contains v.joined_numbers j) s.views id w (λ j u ne e off. subst (λ (l : List ℕ). Contains l j) jo (f.spent j u e off)) (λ off. absurd (true≢false (sym out ∙ off))) j u there off)
+                (λ (there : get_elem? one j ≡ m.some u). all_changed (λ j u. is_out u.phase ≡ false → Contains v.joined_numbers j) s.views id w (λ j u ne e off. f.spent j u e off) (λ off. absurd (true≢false (sym out ∙ off))) j u there off)
                 (λ (x : (j ≡ length one) × (next_view v ≡ u)). absurd (true≢false (ap (λ (z : View). is_out z.phase) x.1 ∙ off)))
                 (at_pushed one (next_view v) u j e);
             joined_spent = λ j c.
-                let gone = f.joined_spent j (subst (λ (l : List ℕ). Contains l j) (sym jo) c) in
+                let gone = f.joined_spent j c in
                 (gone.0, at_longer one (next_view v ∷ []) j gone.0 (at_unchanged s.views id j gone.0 w (λ e. absurd (true≢false (sym out ∙ (ap (λ (u : View). is_out u.phase) (same_at s.views id v gone.0 at (subst (λ (k : ℕ). get_elem? s.views k ≡ m.some gone.0) e gone.1)) ∙ gone.2)))) gone.1), gone.2);
             unmade = λ n lt. f.unmade n (omega arith);
             none_of_first = f.none_of_first;

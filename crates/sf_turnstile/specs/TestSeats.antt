@@ -1,5 +1,5 @@
 -- Seats of the tests (our own).
-use Rattle.std.specs.Prelude.{◌≡◌, ◌≢◌, ℕ, false}
+use Rattle.std.specs.Prelude.{◌≡◌, ◌≢◌, false}
 use Rattle.atomic_table.specs.Seated.{TableId}
 use Rattle.sf_turnstile.specs.Sittings.{Sitting}
 

@@ -2,6 +2,9 @@
 ghost use Rattle.std.specs.Prelude.{◌≡◌, IsTrue, IfOk};
 ghost use Rattle.sf_types.specs.Values.Names.{is_name_byte, is_name, name_of};
 ghost use Rattle.std.specs.List.{list_all};
+ghost use Rattle.std.specs.Hash as fed;
+ghost use Rattle.std.specs.Cmp.Lexicographic.{same_text};
+ghost use Rattle.std.proofs.Common.{ap, sym};
 ghost use Rattle.sf_types.specs.declared.limits.TheConstants.{ROW_NAME_BYTES, LOCATOR_NAME_BYTES};
 
 use crate::blob::Blob;
@@ -9,6 +12,7 @@ use crate::copy::{Exact, TryCopy};
 use crate::limits::{LOCATOR_NAME_BYTES, ROW_NAME_BYTES};
 use crate::memory::Mem;
 use std::alloc::{AllocError, Global};
+use std::hash::{Hash, Hasher};
 use std::marker::Model;
 
 /// A row's name: 1 to 64 of the bytes `A-Z a-z 0-9 _ . -`, seen as their list. A copy shares the bytes.
@@ -116,6 +120,27 @@ impl LocName {
         ensures name { IsTrue (is_name LOCATOR_NAME_BYTES self.now) }
     {
         self.text.as_bytes()
+    }
+}
+
+// Names are hashed by their bytes.
+impl Hash for Name {
+    ghost hash_input = { λ name. fed.slice fed.u8 name };
+
+    ghost respects_eq = { λ a b is. ap (fed.slice fed.u8) (same_text a b (sym is)) };
+
+    fn hash<H: Hasher>(&self, state: &mut H) {
+        self.as_bytes().hash(state);
+    }
+}
+
+impl Hash for LocName {
+    ghost hash_input = { λ name. fed.slice fed.u8 name };
+
+    ghost respects_eq = { λ a b is. ap (fed.slice fed.u8) (same_text a b (sym is)) };
+
+    fn hash<H: Hasher>(&self, state: &mut H) {
+        self.as_bytes().hash(state);
     }
 }
 

@@ -8,7 +8,7 @@ use sha2::{Digest, Sha256};
 use std::marker::Model;
 
 /// A SHA-256 (FIPS 180-4), seen as its 32 bytes.
-#[derive(Clone, Copy, Debug, PartialEq, Eq)]
+#[derive(Clone, Copy, Debug, PartialEq, Eq, PartialOrd, Ord, Hash)]
 pub struct Sum {
     bytes: [u8; 32],
 }

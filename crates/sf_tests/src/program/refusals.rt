@@ -6,7 +6,7 @@ use std::process::Abort;
 use std::test::*;
 
 // Third lines behind the header and the sessions line, and the reason for which they are refused, if any.
-static THIRD_LINES: [(&[u8], Option<&str>); 34] = [
+static THIRD_LINES: [(&[u8], Option<&str>); 35] = [
     (b"", None),
     (b"1: commit\n", None),
     (b"1: writeappend p \"ab", Some("bytes")),
@@ -39,9 +39,10 @@ static THIRD_LINES: [(&[u8], Option<&str>); 34] = [
     (b"1: writeappend p 18446744073709551616*x41\n", Some("form")),
     (
         b"1: writeappend p 18446744073709551615*x41\n",
-        Some("later"),
+        Some("limit"),
     ),
-    (b"1: writeappend p x6162\n", Some("later")),
+    (b"1: writeappend p x6162\n", None),
+    (b"1: writeappend p 3*x61\n", None),
     (b"1: delete a\n", Some("later")),
     (b"1: rollback\n", Some("later")),
 ];

@@ -13,7 +13,7 @@ use Rattle.sf_types.specs.Orders.Histories.{IsLegalHistory, IsWhole, history_tab
 use Rattle.sf_types.specs.Space.Placings.{Placed, IsSafe}
 use Rattle.sf_types.specs.Space.BlockRuns.{AreRuns}
 use Rattle.sf_types.specs.Orders.Transcripts.{birth_blocks, place_of_birth}
-use Rattle.sf_laws.specs.TranscriptExamples.{first_calls, first_history}
+use Rattle.sf_laws.specs.TranscriptExamples.{first_calls, first_history, first_lines}
 use Rattle.sf_laws.proofs.transcript_examples.the_first_path.Goals as goal
 
 legal-is : IsLegalHistory (opening_table standard_options 1) first_history
@@ -55,21 +55,7 @@ safe-is = record {
   once = λ i j d less within. absurd (omega (arith, less, within));
 }
 
--- the lines up to the place's digest
-abbrev front : List ℕ
-front =
-    codes "transcript 1" ++ 10
-    ∷ codes "order 1 1 1 1 1 1+ 1 1" ++ 10
-    ∷ codes "1.1 ok" ++ 10
-    ∷ codes "1.2 ok" ++ 10
-    ∷ codes "1.3 ok" ++ 10
-    ∷ codes "1.4 3" ++ 10
-    ∷ codes "1.5 x616263" ++ 10
-    ∷ codes "1.6 commit 1" ++ 10
-    ∷ codes "1.7 end" ++ 10
-    ∷ codes "place 1 3 "
-
--- the lines from there on, joined as the transcript joins them, and as they are written out
+-- the lines from the place's digest on, joined as the transcript joins them, and as they are written out
 joined : (sum space runs end free row now : List ℕ)
     → ((((((sum ++ space) ++ runs) ++ end) ++ []) ++ (free ++ end)) ++ (((row ++ sum) ++ end) ++ [])) ++ (now ++ end)
     ≡ ((((((sum ++ (space ++ runs)) ++ (end ++ free)) ++ (end ++ row)) ++ sum) ++ (end ++ now)) ++ end)
@@ -84,6 +70,6 @@ returns-clause-right c = record {
   contents = All-cons IsTold place [] refl (All-nil IsTold);
   runs = All-cons HasRuns place [] (omega arith) (All-nil HasRuns);
   safe = safe-is;
-  text = sym (ap (λ (xs : List ℕ). front ++ xs)
+  text = sym (ap (λ (xs : List ℕ). first_lines ++ xs)
       (joined (encode_lower (sha256 (codes "abc"))) (codes " ") (codes "0+1") (10 ∷ []) (codes "free 1023") (codes "row a 3 ") (codes "now 1")));
 }

@@ -4,20 +4,20 @@ use Rattle.sf_shrink.specs.declared.shifts.Shift.{Shift}
 use Rattle.std.proofs.lemmas.List.{append-nil, drop_all}
 use Rattle.sf_shrink.specs.declared.shifts.TheConstants.{MOST_BLOCKS}
 use Rattle.sf_shrink.specs.Plans.{planned, planned_shifts, shifted_to, IsSafeWithoutGap}
-use Rattle.sf_shrink.proofs.PlanLemmas.{next-fits, planned-rule, planned-safe}
+use Rattle.sf_shrink.proofs.PlanLemmas.{place-within, planned-rule, planned-safe}
 use Rattle.sf_shrink.proofs.shifts.plan.Goals as goal
 
 pub block_count-blocks-requires : goal.block_count-blocks-requires
 block_count-blocks-requires c =
-    omega (arith, next-fits c.args.places.now c.as_slice-place-items.result.now c.loop-place.place-index c.place-item.result MOST_BLOCKS c.requires c.as_slice-place-items.ensures c.loop-place-test.true c.place-item.is)
+    omega (arith, place-within c.args.places.now c.as_slice-place-items.result.now c.loop-place.place-index c.place-item.result MOST_BLOCKS c.requires c.as_slice-place-items.ensures c.loop-place-test.true c.place-item.is)
 
 pub overflow_cast-blocks : goal.overflow_cast-blocks
 overflow_cast-blocks c =
-    omega (arith, c.block_count-blocks.ensures, next-fits c.args.places.now c.as_slice-place-items.result.now c.loop-place.place-index c.place-item.result MOST_BLOCKS c.requires c.as_slice-place-items.ensures c.loop-place-test.true c.place-item.is)
+    omega (arith, c.block_count-blocks.ensures, place-within c.args.places.now c.as_slice-place-items.result.now c.loop-place.place-index c.place-item.result MOST_BLOCKS c.requires c.as_slice-place-items.ensures c.loop-place-test.true c.place-item.is)
 
 pub overflow_add-start : goal.overflow_add-start
 overflow_add-start c =
-    omega (arith, c.block_count-blocks.ensures, c.loop-place.invariant.start, next-fits c.args.places.now c.as_slice-place-items.result.now c.loop-place.place-index c.place-item.result MOST_BLOCKS c.requires c.as_slice-place-items.ensures c.loop-place-test.true c.place-item.is)
+    omega (arith, c.block_count-blocks.ensures, c.loop-place.invariant.start, place-within c.args.places.now c.as_slice-place-items.result.now c.loop-place.place-index c.place-item.result MOST_BLOCKS c.requires c.as_slice-place-items.ensures c.loop-place-test.true c.place-item.is)
 
 planned-all : (shifts : List Shift) (start : ℕ) (index : ℕ) (items places : List BirthRuns) → length items ≤ index → shifts ++ planned_shifts start (drop index items) ≡ planned items → items ≡ places → shifts ≡ planned places
 planned-all shifts start index items places past all same =
