@@ -1,0 +1,2 @@
+-- Words that serve the map's own view.
+pub mod Sorted

@@ -1,0 +1,8 @@
+//! A finite map that makes room ahead of what it is to hold.
+#![tactic(auto)]
+
+mod key;
+mod room_map;
+
+pub use key::RoomKey;
+pub use room_map::RoomMap;
