@@ -1,0 +1,9 @@
+pub mod TimesLemmas
+pub mod ViewLemmas
+pub mod RuleLemmas
+pub mod ClaimLemmas
+pub mod ReleaseLemmas
+pub mod LookLemmas
+pub mod PartLemmas
+pub mod OpeningLemmas
+pub mod SeatLemmas
