@@ -1,0 +1,8 @@
+//! Which session holds which row's lock.
+#![tactic(auto)]
+
+mod row_key;
+mod row_locks;
+mod slot;
+
+pub use row_locks::RowLocks;
