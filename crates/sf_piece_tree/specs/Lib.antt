@@ -1,0 +1,4 @@
+pub mod Contents
+pub mod Cuts
+pub mod Inside
+pub mod Walks

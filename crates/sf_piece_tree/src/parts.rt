@@ -1,0 +1,115 @@
+//! Trees taken apart and put together.
+ghost use Rattle.std.specs.Prelude.{◌≡◌, ◌+◌, ◌^◌, ◌<◌, ◌≤◌, [], ◌∷◌, ◌++◌, length, take, drop, IfOk, OnErr};
+ghost use Rattle.sf_piece_tree.specs.Contents.{joined_content};
+ghost use Rattle.sf_piece_tree.specs.Cuts.{IsCut};
+
+use crate::balance::join_by;
+use crate::tree::{Node, Tree, node_of};
+use crate::unit::Unit;
+use sf_types::Mem;
+use std::alloc::Global;
+
+// Takes out the node in whose unit a byte lies: the tree of the units before it, the node, and the tree of those after it.
+pub fn take_out<P: Unit>(tree: Tree<P>, at: u64) -> (Tree<P>, Box<Node<P>>, Tree<P>)
+    requires { at < length (joined_content P.content tree.units) }
+    ensures units { tree.units ≡ result.0.units ++ result.1.value.unit ∷ result.2.units }
+    ensures before { length (joined_content P.content result.0.units) ≤ at }
+    ensures within { at < length (joined_content P.content result.0.units) + length (P.content result.1.value.unit) }
+{
+    let Some(mut node) = tree.into_root() else {
+        unreachable!()
+    };
+    let (left, right) = node.take_sides();
+    let before = left.size();
+    if at < before {
+        let (first, found, rest) = take_out(left, at);
+        return (first, found, join_by(rest, node, right));
+    }
+    let through = before + node.unit.size();
+    if at < through {
+        return (left, node, right);
+    }
+    let (rest, found, last) = take_out(right, at - through);
+    (join_by(left, node, rest), found, last)
+}
+
+// Takes out the first node.
+pub fn take_first<P: Unit>(tree: Tree<P>) -> (Box<Node<P>>, Tree<P>)
+    requires { 1 ≤ length tree.units }
+    ensures { tree.units ≡ result.0.value.unit ∷ result.1.units }
+{
+    let Some(mut node) = tree.into_root() else {
+        unreachable!()
+    };
+    let (left, right) = node.take_sides();
+    if left.is_empty() {
+        return (node, right);
+    }
+    let (first, rest) = take_first(left);
+    (first, join_by(rest, node, right))
+}
+
+// Takes out the last node.
+pub fn take_last<P: Unit>(tree: Tree<P>) -> (Tree<P>, Box<Node<P>>)
+    requires { 1 ≤ length tree.units }
+    ensures { tree.units ≡ result.0.units ++ result.1.value.unit ∷ [] }
+{
+    let Some(mut node) = tree.into_root() else {
+        unreachable!()
+    };
+    let (left, right) = node.take_sides();
+    if right.is_empty() {
+        return (left, node);
+    }
+    let (rest, last) = take_last(right);
+    (join_by(left, node, rest), last)
+}
+
+// The tree of the units of two trees.
+pub fn concat<P: Unit>(left: Tree<P>, right: Tree<P>) -> Tree<P>
+    requires { length (joined_content P.content (left.units ++ right.units)) < 2 ^ 64 }
+    ensures { result.units ≡ left.units ++ right.units }
+{
+    if right.is_empty() {
+        return left;
+    }
+    let (middle, rest) = take_first(right);
+    join_by(left, middle, rest)
+}
+
+// The parts of a unit before a byte and from it on, the second in a node of its own.
+fn halves<P: Unit>(alloc: Global, unit: &P, offset: u64) -> Mem<(P, Box<Node<P>>)>
+    requires some { 0 < offset }
+    requires within { offset < length (P.content unit.now) }
+    ensures front { IfOk result (λ parts. P.content parts.0 ≡ take offset (P.content unit.now)) }
+    ensures back { IfOk result (λ parts. P.content parts.1.value.unit ≡ drop offset (P.content unit.now)) }
+{
+    let front = unit.front(offset)?;
+    let back = unit.back(offset)?;
+    let node = node_of(alloc, back)?;
+    Ok((front, node))
+}
+
+// Cuts a tree at a byte. After want of memory the first part is the whole.
+pub fn split<P: Unit>(alloc: Global, tree: Tree<P>, at: u64) -> (Tree<P>, Mem<Tree<P>>)
+    requires { at ≤ length (joined_content P.content tree.units) }
+    ensures ok { IfOk result.1 (λ second. IsCut P.content tree.units at result.0.units second.units) }
+    ensures err { OnErr result.1 (result.0.units ≡ tree.units) }
+{
+    if at == tree.size() {
+        return (tree, Ok(Tree::empty()));
+    }
+    let (before, mut node, after) = take_out(tree, at);
+    let offset = at - before.size();
+    if offset == 0 {
+        return (before, Ok(join_by(Tree::empty(), node, after)));
+    }
+    match halves(alloc, &node.unit, offset) {
+        Ok((front, back)) => {
+            node.unit = front;
+            let first = join_by(before, node, Tree::empty());
+            (first, Ok(join_by(Tree::empty(), back, after)))
+        }
+        Err(error) => (join_by(before, node, after), Err(error)),
+    }
+}
