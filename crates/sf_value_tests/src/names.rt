@@ -1,0 +1,12 @@
+//! Names for the tests.
+
+use sf_types::{Mem, Name, OutOfMemory};
+use std::alloc::Global;
+
+/// A row's name. A text that is none counts as want of memory.
+pub fn row_name(alloc: Global, text: &[u8]) -> Mem<Name> {
+    match Name::new(alloc, text)? {
+        Some(name) => Ok(name),
+        None => Err(OutOfMemory),
+    }
+}

@@ -1,0 +1,41 @@
+use crate::names::row_name;
+use sf_room_map::RoomMap;
+use sf_types::{Mem, Name};
+use std::alloc::Global;
+use std::test::*;
+
+// The rows b and a, the one put with room and the other without.
+fn two_rows(alloc: Global) -> Mem<RoomMap<Name, u64>> {
+    let mut rows = RoomMap::new(alloc);
+    rows.make_room(1)?;
+    rows.insert(row_name(alloc, b"b")?, 2)?;
+    rows.insert(row_name(alloc, b"a")?, 1)?;
+    Ok(rows)
+}
+
+#[test]
+fn lists_in_the_order_of_keys(rt: HostRuntime) -> Result<(), Fail> {
+    let rows = two_rows(rt.alloc())?;
+    let expected = [(b"a", 1), (b"b", 2)];
+    let entries = rows.entries()?;
+    assert_eq!(rt; entries.len(), expected.len());
+    for (entry, (name, value)) in entries.iter().zip(expected) {
+        assert_eq!(rt; entry.0.as_bytes(), name.as_slice());
+        assert_eq!(rt; *entry.1, value);
+    }
+    Ok(())
+}
+
+#[test]
+fn puts_and_takes_out(rt: HostRuntime) -> Result<(), Fail> {
+    let alloc = rt.alloc();
+    let mut rows = two_rows(alloc)?;
+    let a = row_name(alloc, b"a")?;
+    assert_eq!(rt; rows.insert(row_name(alloc, b"a")?, 7)?, Some(1));
+    assert_eq!(rt; rows.insert(row_name(alloc, b"c")?, 3)?, None);
+    assert_eq!(rt; rows.get(&a).copied(), Some(7));
+    assert_eq!(rt; rows.remove(&a), Some(7));
+    assert_eq!(rt; rows.remove(&a), None);
+    assert_eq!(rt; rows.len(), 2);
+    Ok(())
+}
