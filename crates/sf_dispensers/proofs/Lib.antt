@@ -1,0 +1,3 @@
+pub mod RunTimesLemmas
+pub mod BitLemmas
+pub mod SeatRunLemmas
