@@ -1,5 +1,5 @@
 -- What a cut of units does to their content and their weight.
-use Rattle.std.proofs.Common.{◌≡◌, ℕ, ◌+◌, ◌≤◌, List, [], ◌∷◌, ◌++◌, length, take, drop, inl, inr, sym, ap, ◌∙◌, arith}
+use Rattle.std.proofs.Common.{◌≡◌, ℕ, ◌+◌, ◌≤◌, ◌<◌, List, [], ◌∷◌, ◌++◌, length, take, drop, inl, inr, sym, ap, ◌∙◌, arith, length-append}
 use Rattle.std.proofs.Math.Seq.{take-append_seam, drop-append_seam, take-append-add, drop-append-add}
 use Rattle.std.proofs.lemmas.List.{append-nil, take-append-le, drop-append-le}
 use Rattle.std.proofs.lemmas.List.Concat.{flat_map-append}
@@ -49,3 +49,17 @@ IsCut-second content units at first second (inr cut) =
     rw (cut.units_are, cut.at_is, cut.second_is)
     (ap (λ (bytes : List Marked). bytes ++ joined_content content cut.after) cut.back_is
     ∙ sym (drop-within content cut.before cut.unit cut.after cut.offset most))
+
+-- a cut between two units is at no byte after the first of a unit
+pub no_cut_within : {P : Type 0} (content : P → List Marked) (first second before : List P) (unit : P) (after : List P) → first ++ second ≡ before ++ unit ∷ after → length (joined_content content before) < length (joined_content content first) → length (joined_content content first) < length (joined_content content before) + length (content unit) → ⊥
+no_cut_within content [] second before unit after is more less = omega arith
+no_cut_within {P} content (x ∷ first) second [] unit after is more less =
+    let same : x ≡ unit = cc (is) in
+    omega (arith, ap (λ (other : P). length (content other)) same, length-append (content x) (joined_content content first))
+no_cut_within {P} content (x ∷ first) second (y ∷ before) unit after is more less =
+    let same : x ≡ y = cc (is) in
+    let rest : first ++ second ≡ before ++ unit ∷ after = cc (is) in
+    let sizes = ap (λ (other : P). length (content other)) same in
+    no_cut_within content first second before unit after rest
+    (omega (arith, sizes, length-append (content x) (joined_content content first), length-append (content y) (joined_content content before)))
+    (omega (arith, sizes, length-append (content x) (joined_content content first), length-append (content y) (joined_content content before)))

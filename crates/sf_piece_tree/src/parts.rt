@@ -1,7 +1,7 @@
 //! Trees taken apart and put together.
-ghost use Rattle.std.specs.Prelude.{◌≡◌, ◌+◌, ◌^◌, ◌<◌, ◌≤◌, [], ◌∷◌, ◌++◌, length, take, drop, IfOk, OnErr};
+ghost use Rattle.std.specs.Prelude.{◌≡◌, ◌+◌, ◌^◌, ◌<◌, ◌≤◌, [], ◌∷◌, ◌++◌, length, take, drop, List, IsOk, IfOk, OnErr};
 ghost use Rattle.sf_piece_tree.specs.Contents.{joined_content};
-ghost use Rattle.sf_piece_tree.specs.Cuts.{IsCut};
+ghost use Rattle.sf_piece_tree.specs.Cuts.{CutsBetween, IsCut};
 
 use crate::balance::join_by;
 use crate::tree::{Node, Tree, node_of};
@@ -94,6 +94,7 @@ fn halves<P: Unit>(alloc: Global, unit: &P, offset: u64) -> Mem<(P, Box<Node<P>>
 pub fn split<P: Unit>(alloc: Global, tree: Tree<P>, at: u64) -> (Tree<P>, Mem<Tree<P>>)
     requires { at ≤ length (joined_content P.content tree.units) }
     ensures ok { IfOk result.1 (λ second. IsCut P.content tree.units at result.0.units second.units) }
+    ensures free { (first second : List P) → CutsBetween P.content tree.units at first second → IsOk result.1 }
     ensures err { OnErr result.1 (result.0.units ≡ tree.units) }
 {
     if at == tree.size() {

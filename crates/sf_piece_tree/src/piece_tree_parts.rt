@@ -1,7 +1,7 @@
 //! Trees of units joined and cut.
-ghost use Rattle.std.specs.Prelude.{◌≡◌, ◌+◌, ◌^◌, ◌<◌, ◌≤◌, ◌++◌, length, take, drop, IfOk, OnErr};
+ghost use Rattle.std.specs.Prelude.{◌≡◌, ◌+◌, ◌^◌, ◌<◌, ◌≤◌, ◌++◌, length, take, drop, List, IsOk, IfOk, OnErr};
 ghost use Rattle.sf_piece_tree.specs.Contents.{joined_content, weight_of};
-ghost use Rattle.sf_piece_tree.specs.Cuts.{IsCut};
+ghost use Rattle.sf_piece_tree.specs.Cuts.{CutsBetween, IsCut};
 
 use crate::parts::{concat, split};
 use crate::piece_tree::PieceTree;
@@ -43,10 +43,12 @@ impl<P: Unit> PieceTree<P> {
     }
 
     /// Cuts the tree at a byte, counted from 0: the units before the byte stay, and those from it on are the result. A unit is
-    /// cut where the byte lies after its first; only then it takes memory. After want of memory nothing has changed.
+    /// cut where the byte lies after its first; only then it takes memory, and elsewhere it is done. After want of memory
+    /// nothing has changed.
     pub fn split_off(&mut self, at: u64) -> Mem<PieceTree<P>>
         requires { at ≤ length (joined_content P.content self.old) }
         ensures units { IfOk result (λ second. IsCut P.content self.old at self.new second) }
+        ensures free { (first second : List P) → CutsBetween P.content self.old at first second → IsOk result }
         ensures first { IfOk result (λ second. joined_content P.content self.new ≡ take at (joined_content P.content self.old)) }
         ensures second { IfOk result (λ second. joined_content P.content second ≡ drop at (joined_content P.content self.old)) }
         ensures weights { IfOk result (λ second. weight_of P.weight self.new + weight_of P.weight second ≡ weight_of P.weight self.old) }

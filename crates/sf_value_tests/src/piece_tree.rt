@@ -146,17 +146,16 @@ fn a_tree_of_4096_units(rt: HostRuntime) -> Result<(), Fail> {
 #[test]
 fn a_tree_cut_and_turned_round(rt: HostRuntime) -> Result<(), Fail> {
     let tree = joined_units(rt.alloc(), 4_096)?;
-    if tree.size() == 4_096 {
-        let (first, second) = tree.cut(1_000)?;
-        if first.size() <= 4_096 && second.size() <= 4_096 {
-            let turned = second.join(&first)?;
-            assert_eq!(rt; turned.size(), 4_096);
-            assert_eq!(rt; turned.pieces(), 4_096);
-            assert_eq!(rt; found(&turned, 0), Some((1_000, 0)));
-            assert_eq!(rt; found(&turned, 4_095), Some((999, 0)));
-            assert!(rt; turned.depth() <= 25);
-        }
-    }
+    assert_eq!(rt; tree.size(), 4_096);
+    let (first, second) = tree.cut(1_000)?;
+    assert_eq!(rt; first.size(), 1_000);
+    assert_eq!(rt; second.size(), 3_096);
+    let turned = second.join(&first)?;
+    assert_eq!(rt; turned.size(), 4_096);
+    assert_eq!(rt; turned.pieces(), 4_096);
+    assert_eq!(rt; found(&turned, 0), Some((1_000, 0)));
+    assert_eq!(rt; found(&turned, 4_095), Some((999, 0)));
+    assert!(rt; turned.depth() <= 25);
     Ok(())
 }
 
@@ -178,27 +177,25 @@ fn units_are_pushed_and_shown(rt: HostRuntime) -> Result<(), Fail> {
 #[test]
 fn parts_and_ends(rt: HostRuntime) -> Result<(), Fail> {
     let mut tree = three_units(rt.alloc())?;
-    if tree.size() == 6 {
-        let (first, second) = tree.cut(3)?;
-        assert_eq!(rt; written(&first, 0), (13, true));
-        assert_eq!(rt; written(&second, 0), (22_31, true));
-        let mut second = tree.split_off(4)?;
-        assert_eq!(rt; written(&tree, 0), (13_21, true));
-        assert_eq!(rt; written(&second, 0), (21_31, true));
-        if 1 <= tree.pieces() && tree.size() == 4 && 1 <= second.pieces() && second.size() == 2 {
-            tree.replace_first(Letters {
-                letter: 7,
-                count: 5,
-            });
-            second.replace_last(Letters {
-                letter: 8,
-                count: 4,
-            });
-            if tree.size() == 6 && second.size() == 5 {
-                tree.append(second);
-            }
-        }
-    }
+    assert_eq!(rt; tree.size(), 6);
+    let (first, second) = tree.cut(3)?;
+    assert_eq!(rt; written(&first, 0), (13, true));
+    assert_eq!(rt; written(&second, 0), (22_31, true));
+    let mut second = tree.split_off(4)?;
+    assert_eq!(rt; written(&tree, 0), (13_21, true));
+    assert_eq!(rt; written(&second, 0), (21_31, true));
+    assert_eq!(rt; (tree.pieces(), tree.size()), (2, 4));
+    tree.replace_first(Letters {
+        letter: 7,
+        count: 5,
+    });
+    assert_eq!(rt; (second.pieces(), second.size()), (2, 2));
+    second.replace_last(Letters {
+        letter: 8,
+        count: 4,
+    });
+    assert_eq!(rt; (tree.size(), second.size()), (6, 5));
+    tree.append(second);
     assert_eq!(rt; written(&tree, 0), (75_21_21_84, true));
     let first = tree.pop_first();
     assert_eq!(rt; first.map(|letters| letters.letter), Some(7));
