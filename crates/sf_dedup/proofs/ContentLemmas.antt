@@ -11,8 +11,8 @@ use Rattle.sf_room_map.proofs.EntryLemmas.{first_passes, none_passes}
 use Rattle.sf_dedup.specs.Contents.{Contents, content_at, birth_with, has_content}
 
 -- No two births have the same bytes.
-abbrev pub AreApart : Contents → Type 0
-AreApart contents = (birth other : ℕ) (bytes : List ℕ) → content_at contents birth ≡ Some bytes → content_at contents other ≡ Some bytes → birth ≡ other
+abbrev pub DifferInBytes : Contents → Type 0
+DifferInBytes contents = (birth other : ℕ) (bytes : List ℕ) → content_at contents birth ≡ Some bytes → content_at contents other ≡ Some bytes → birth ≡ other
 
 own_bytes : (bytes : List ℕ) → bytes_eq bytes bytes ≡ true
 own_bytes bytes = nat_list_eq_equiv.refl bytes
@@ -28,8 +28,8 @@ pub has_from_content : (contents : Contents) (birth : ℕ) (bytes : List ℕ) �
 has_from_content contents birth bytes is = ap (λ x. option_map_or (λ own. bytes_eq own bytes) x false) is ∙ own_bytes bytes
 
 -- the birth that has some bytes is the one that is found
-pub found_birth : (contents : Contents) (birth : ℕ) (bytes : List ℕ) → T (is_sorted nat_cmp contents) → AreApart contents → content_at contents birth ≡ Some bytes → birth_with contents bytes ≡ Some birth
-found_birth contents birth bytes sorted apart is =
+pub birth_is_found : (contents : Contents) (birth : ℕ) (bytes : List ℕ) → T (is_sorted nat_cmp contents) → DifferInBytes contents → content_at contents birth ≡ Some bytes → birth_with contents bytes ≡ Some birth
+birth_is_found contents birth bytes sorted apart is =
     elim (find (λ e. bytes_eq e.1 bytes) contents) as (λ r. find (λ e. bytes_eq e.1 bytes) contents ≡ r → option_map (λ (e : ℕ × List ℕ). e.0) r ≡ Some birth) [
       | None ↦ λ none. absurd (let bad = sym (none_passes nat_cmp nat_cmp_total nat_cmp-IsAntisymmetric (λ own. bytes_eq own bytes) contents birth bytes none is) ∙ own_bytes bytes in cc)
       | Some e ↦ λ found.

@@ -1,2 +1,4 @@
 pub mod ContentLemmas
 pub mod FilingLemmas
+pub mod MoreLemmas
+pub mod FewerLemmas

@@ -4,7 +4,7 @@ use Rattle.std.specs.Option.{option_map, option_map_or}
 use Rattle.std.specs.Ordering.{nat_cmp}
 use Rattle.std.specs.Map.{keys_of}
 use Rattle.std.specs.List.Sorted.{IsStrictlySortedBy}
-use Rattle.sf_room_map.specs.Entries.{value_at, with_value, without_key}
+use Rattle.sf_room_map.specs.Entries.{value_for, with_value, without_key}
 
 -- Contents by birth: a list of entries whose births rise.
 abbrev pub Contents : Type 0
@@ -12,7 +12,7 @@ Contents = List (ℕ × List ℕ)
 
 -- The bytes of a birth.
 abbrev pub content_at : Contents → ℕ → Option (List ℕ)
-content_at contents birth = value_at nat_cmp contents birth
+content_at contents birth = value_for nat_cmp contents birth
 
 -- The birth that has these bytes. None where no birth has them.
 abbrev pub birth_with : Contents → List ℕ → Option ℕ

@@ -13,7 +13,7 @@ use std::marker::Model;
 
 /// A content with its print.
 #[derive(Drop)]
-pub struct Filed {
+pub struct IndexEntry {
     print: Print,
     content: Blob,
 }
@@ -22,7 +22,7 @@ pub struct Filed {
 /// with a digest stands under it, and births whose digest was taken stand in a list of their own.
 #[derive(Drop)]
 pub struct Index {
-    contents: RoomMap<u128, Filed>,
+    contents: RoomMap<u128, IndexEntry>,
     firsts: RoomMap<Sum, u128>,
     others: Vec<u128>,
 }
@@ -31,12 +31,12 @@ impl Model for Index {
     ghost use Rattle.std.specs.Prelude.{◌-◌, min, vec_capacity, vec_len};
     ghost use Rattle.sf_types.specs.Rooms.{Roomy};
     ghost use Rattle.sf_dedup.specs.Contents.{Contents};
-    ghost use Rattle.sf_dedup.specs.Inside.Filing.{contents_in, IsFiled};
+    ghost use Rattle.sf_dedup.specs.Inside.Filing.{plain_contents, IsFiled};
 
     ghost Value = { Roomy Contents };
 
     ghost view = { λ i. record {
-      held = contents_in i.contents.held;
+      held = plain_contents i.contents.held;
       spare = min (min i.contents.spare i.firsts.spare) (vec_capacity i.others - vec_len i.others);
     } };
 
@@ -107,7 +107,7 @@ impl Index {
         ensures { result ≡ has_content self.now.held birth content.now }
     {
         match self.contents.get(&birth) {
-            Some(filed) => filed.content == *content,
+            Some(entry) => entry.content == *content,
             None => false,
         }
     }
@@ -147,7 +147,8 @@ impl Index {
     {
         self.make_room(1)?;
         file(&mut self.firsts, &mut self.others, print.sum, birth);
-        self.contents.insert_within(birth, Filed { print, content });
+        self.contents
+            .insert_within(birth, IndexEntry { print, content });
         Ok(())
     }
 
@@ -156,10 +157,10 @@ impl Index {
         ensures held { self.new.held ≡ without_birth self.old.held birth }
         ensures spare { self.old.spare ≤ self.new.spare }
     {
-        let Some(filed) = self.contents.get(&birth) else {
+        let Some(entry) = self.contents.get(&birth) else {
             return;
         };
-        let sum = filed.print.sum;
+        let sum = entry.print.sum;
         unfile(&mut self.firsts, &mut self.others, sum, birth);
         self.contents.remove(&birth);
     }

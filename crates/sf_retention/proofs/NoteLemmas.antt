@@ -10,8 +10,8 @@ use Rattle.sf_retention.specs.declared.retention.Pair.{Pair}
 use Rattle.sf_retention.specs.Notes.{pair_of, due_pairs}
 
 -- `until` never falls along notes.
-abbrev pub IsRising : List Note → Type 0
-IsRising notes = IsNonDecreasingBy (λ note. note.until) notes
+abbrev pub IsInOrder : List Note → Type 0
+IsInOrder notes = IsNonDecreasingBy (λ note. note.until) notes
 
 first_due : (note : Note) (notes : List Note) (floor : ℕ) → note.until ≤ floor → due_pairs (note ∷ notes) floor ≡ pair_of note ∷ due_pairs notes floor
 first_due note notes floor le =
@@ -27,10 +27,10 @@ none_due (note ∷ notes) floor later =
     ∙ none_due notes floor (λ k d less. later (suc k) d (omega (arith, less)))
 
 -- a note after the floor is followed by none that is due
-pub later_due : (all notes : List Note) (note : Note) (floor : ℕ) → all ≡ note ∷ notes → IsRising all → floor < note.until → due_pairs all floor ≡ []
+pub later_due : (all notes : List Note) (note : Note) (floor : ℕ) → all ≡ note ∷ notes → IsInOrder all → floor < note.until → due_pairs all floor ≡ []
 later_due all notes note floor is rising after =
     ap (λ ns. due_pairs ns floor) is
-    ∙ none_due (note ∷ notes) floor (λ k d less. let up = subst IsRising is rising zero k d (omega arith) less in omega (arith, up, after))
+    ∙ none_due (note ∷ notes) floor (λ k d less. let up = subst IsInOrder is rising zero k d (omega arith) less in omega (arith, up, after))
 
 -- one due note more was listed
 pub next_due : (all notes : List Note) (note : Note) (floor : ℕ) (pairs whole : List Pair) → all ≡ note ∷ notes → note.until ≤ floor → pairs ++ due_pairs all floor ≡ whole → (pairs ++ pair_of note ∷ []) ++ due_pairs notes floor ≡ whole
@@ -39,8 +39,8 @@ next_due all notes note floor pairs whole is le so_far =
     ∙ ap (λ (ps : List Pair). pairs ++ ps) (sym (ap (λ ns. due_pairs ns floor) is ∙ first_due note notes floor le))
     ∙ so_far
 
-pub rising_rest : (all notes : List Note) (note : Note) → all ≡ note ∷ notes → IsRising all → IsRising notes
-rising_rest all notes note is rising = IsNonDecreasingBy-drop (λ note. note.until) 1 (note ∷ notes) (subst IsRising is rising)
+pub rising_rest : (all notes : List Note) (note : Note) → all ≡ note ∷ notes → IsInOrder all → IsInOrder notes
+rising_rest all notes note is rising = IsNonDecreasingBy-drop (λ note. note.until) 1 (note ∷ notes) (subst IsInOrder is rising)
 
 -- no note is left, or none that is due
 pub all_listed : (left : List Pair) (pairs whole : List Pair) → left ≡ [] → pairs ++ left ≡ whole → pairs ≡ whole
@@ -51,6 +51,6 @@ no_notes [] none = refl
 no_notes (note ∷ notes) none = absurd (omega (arith, none))
 
 -- a note that comes no earlier than all before it
-pub rising_push : (notes more : List Note) (note : Note) → more ≡ notes ++ note ∷ [] → IsRising notes → All (λ n. n.until ≤ note.until) notes → IsRising more
+pub rising_push : (notes more : List Note) (note : Note) → more ≡ notes ++ note ∷ [] → IsInOrder notes → All (λ n. n.until ≤ note.until) notes → IsInOrder more
 rising_push notes more note is rising before =
-    subst IsRising (sym is) (IsNonDecreasingBy-push (λ n. n.until) notes note rising (λ d some. before _ d (omega (arith, some))))
+    subst IsInOrder (sym is) (IsNonDecreasingBy-push (λ n. n.until) notes note rising (λ d some. before _ d (omega (arith, some))))

@@ -12,7 +12,7 @@ use Rattle.std.specs.FinMap.{IsAntisymmetric}
 use Rattle.std.specs.FinMap.Entries as fin
 use Rattle.sf_types.proofs.BoolLemmas.{both, first, second}
 use Rattle.sf_types.proofs.NameMapLemmas.{ordering_less, equal}
-use Rattle.sf_room_map.specs.Entries.{value_at, with_value, without_key}
+use Rattle.sf_room_map.specs.Entries.{value_for, with_value, without_key}
 use Rattle.sf_room_map.specs.Inside.Sorted.{sorted_entries}
 
 turned : {A : Type 0} (b : Bool) (x y : A) → cond (not b) x y ≡ cond b y x
@@ -29,7 +29,7 @@ module _ {K X : Type 0} (R : K → K → Ordering) where
   put_is [] k v = refl
   put_is (e ∷ es) k v = ap (λ r. match_ordering (R k e.0) ((k, v) ∷ e ∷ es) ((e.0, v) ∷ es) (e ∷ r)) (put_is es k v)
 
-  pub find_is : (es : List (K × X)) (q : K) → value_at R es q ≡ fin.find R q es
+  pub find_is : (es : List (K × X)) (q : K) → value_for R es q ≡ fin.find R q es
   find_is [] q = refl
   find_is (e ∷ es) q = ap (cond (is_eq (R q e.0)) (Some e.1)) (find_is es q)
 
@@ -71,13 +71,13 @@ module _ {K X : Type 0} (R : K → K → Ordering) where
         subst (λ xs. T (fin.is_sorted R xs)) (sym (without_is k es sorted)) (fin.is_sorted-where_key R (λ x. not (eq_by_cmp R k x)) es sorted)
 
     -- what entries have at a key after a value was put, and after a key was taken away
-    pub value_at-with : (es : List (K × X)) (k : K) (v : X) (q : K) → value_at R (with_value R es k v) q ≡ cond (eq_by_cmp R q k) (Some v) (value_at R es q)
-    value_at-with es k v q =
+    pub value_for-with : (es : List (K × X)) (k : K) (v : X) (q : K) → value_for R (with_value R es k v) q ≡ cond (eq_by_cmp R q k) (Some v) (value_for R es q)
+    value_for-with es k v q =
         find_is (with_value R es k v) q ∙ ap (fin.find R q) (put_is es k v) ∙ fin.find-put R o q k v es
         ∙ ap (cond (eq_by_cmp R q k) (Some v)) (sym (find_is es q))
 
-    pub value_at-without : (es : List (K × X)) (k q : K) → T (fin.is_sorted R es) → value_at R (without_key R es k) q ≡ cond (eq_by_cmp R q k) None (value_at R es q)
-    value_at-without es k q sorted =
+    pub value_for-without : (es : List (K × X)) (k q : K) → T (fin.is_sorted R es) → value_for R (without_key R es k) q ≡ cond (eq_by_cmp R q k) None (value_for R es q)
+    value_for-without es k q sorted =
         find_is (without_key R es k) q ∙ ap (fin.find R q) (without_is k es sorted)
         ∙ fin.find-where_key R (λ x. not (eq_by_cmp R k x)) q (λ x tie. ap (λ r. not (is_eq r)) (sym (alike_right o q x k tie))) es
         ∙ turned (eq_by_cmp R k q) (fin.find R q es) None
@@ -92,9 +92,9 @@ module _ {K X : Type 0} (R : K → K → Ordering) where
     are_sorted [] = tt
     are_sorted (e ∷ es) = sorted_with (sorted_entries R es) e.0 e.1 (are_sorted es)
 
-    pub find_sorted : (es : List (K × X)) (q : K) → value_at R (sorted_entries R es) q ≡ fin.find R q es
+    pub find_sorted : (es : List (K × X)) (q : K) → value_for R (sorted_entries R es) q ≡ fin.find R q es
     find_sorted [] q = refl
-    find_sorted (e ∷ es) q = value_at-with (sorted_entries R es) e.0 e.1 q ∙ ap (cond (eq_by_cmp R q e.0) (Some e.1)) (find_sorted es q)
+    find_sorted (e ∷ es) q = value_for-with (sorted_entries R es) e.0 e.1 q ∙ ap (cond (eq_by_cmp R q e.0) (Some e.1)) (find_sorted es q)
 
     pub length_sorted : (es : List (K × X)) → IsDistinct (eq_by_cmp R) (keys_of es) → length (sorted_entries R es) ≡ length es
     unfolding IsDistinct
@@ -110,7 +110,7 @@ module _ {K X : Type 0} (R : K → K → Ordering) where
         absent k (e ∷ es) apart = ap (λ b. cond b (Some e.1) (fin.find R k es)) apart.0 ∙ absent k es apart.1
 
     -- entries that have the same at each key are the same
-    pub same_values : IsAntisymmetric R → (es fs : List (K × X)) → T (fin.is_sorted R es) → T (fin.is_sorted R fs) → ((q : K) → value_at R es q ≡ value_at R fs q) → es ≡ fs
+    pub same_values : IsAntisymmetric R → (es fs : List (K × X)) → T (fin.is_sorted R es) → T (fin.is_sorted R fs) → ((q : K) → value_for R es q ≡ value_for R fs q) → es ≡ fs
     same_values exact es fs sorted_es sorted_fs same =
         fin.same_entries R o exact es fs sorted_es sorted_fs (λ q. sym (find_is es q) ∙ same q ∙ find_is fs q)
 
@@ -129,94 +129,94 @@ module _ {K : Type 0} (R : K → K → Ordering) (o : IsTotalOrder R) (exact : I
   not_own q k apart same = let own : eq_by_cmp R q k ≡ true = ap (λ x. eq_by_cmp R q x) (sym same) ∙ own_key q in let bad : true ≡ false = sym own ∙ apart in absurd cc
 
   module _ {X : Type 0} where
-    pub with_here : (es : List (K × X)) (k : K) (v : X) → value_at R (with_value R es k v) k ≡ Some v
-    with_here es k v = value_at-with R o es k v k ∙ ap (λ b. cond b (Some v) (value_at R es k)) (own_key k)
+    pub with_here : (es : List (K × X)) (k : K) (v : X) → value_for R (with_value R es k v) k ≡ Some v
+    with_here es k v = value_for-with R o es k v k ∙ ap (λ b. cond b (Some v) (value_for R es k)) (own_key k)
 
-    pub with_other : (es : List (K × X)) (k : K) (v : X) (q : K) → eq_by_cmp R q k ≡ false → value_at R (with_value R es k v) q ≡ value_at R es q
-    with_other es k v q apart = value_at-with R o es k v q ∙ ap (λ b. cond b (Some v) (value_at R es q)) apart
+    pub with_other : (es : List (K × X)) (k : K) (v : X) (q : K) → eq_by_cmp R q k ≡ false → value_for R (with_value R es k v) q ≡ value_for R es q
+    with_other es k v q apart = value_for-with R o es k v q ∙ ap (λ b. cond b (Some v) (value_for R es q)) apart
 
-    pub without_here : (es : List (K × X)) (k : K) → T (fin.is_sorted R es) → value_at R (without_key R es k) k ≡ None
-    without_here es k sorted = value_at-without R o es k k sorted ∙ ap (λ b. cond b None (value_at R es k)) (own_key k)
+    pub without_here : (es : List (K × X)) (k : K) → T (fin.is_sorted R es) → value_for R (without_key R es k) k ≡ None
+    without_here es k sorted = value_for-without R o es k k sorted ∙ ap (λ b. cond b None (value_for R es k)) (own_key k)
 
-    pub without_other : (es : List (K × X)) (k q : K) → T (fin.is_sorted R es) → eq_by_cmp R q k ≡ false → value_at R (without_key R es k) q ≡ value_at R es q
-    without_other es k q sorted apart = value_at-without R o es k q sorted ∙ ap (λ b. cond b None (value_at R es q)) apart
+    pub without_other : (es : List (K × X)) (k q : K) → T (fin.is_sorted R es) → eq_by_cmp R q k ≡ false → value_for R (without_key R es k) q ≡ value_for R es q
+    without_other es k q sorted apart = value_for-without R o es k q sorted ∙ ap (λ b. cond b None (value_for R es q)) apart
 
     -- where a value was found after a value was put, and after a key was taken away
-    pub with_cases : (es : List (K × X)) (k : K) (v : X) (q : K) (y : X) → value_at R (with_value R es k v) q ≡ Some y → ((q ≡ k) × (v ≡ y)) ⊎ ((eq_by_cmp R q k ≡ false) × (value_at R es q ≡ Some y))
+    pub with_cases : (es : List (K × X)) (k : K) (v : X) (q : K) (y : X) → value_for R (with_value R es k v) q ≡ Some y → ((q ≡ k) × (v ≡ y)) ⊎ ((eq_by_cmp R q k ≡ false) × (value_for R es q ≡ Some y))
     with_cases es k v q y is =
-        elim (eq_by_cmp R q k) as (λ b. eq_by_cmp R q k ≡ b → cond b (Some v) (value_at R es q) ≡ Some y → ((q ≡ k) × (v ≡ y)) ⊎ ((eq_by_cmp R q k ≡ false) × (value_at R es q ≡ Some y))) [
+        elim (eq_by_cmp R q k) as (λ b. eq_by_cmp R q k ≡ b → cond b (Some v) (value_for R es q) ≡ Some y → ((q ≡ k) × (v ≡ y)) ⊎ ((eq_by_cmp R q k ≡ false) × (value_for R es q ≡ Some y))) [
           | true ↦ λ tie found. inl (same_key q k tie, some v y found)
           | false ↦ λ apart found. inr (apart, found)
-        ] refl (sym (value_at-with R o es k v q) ∙ is)
+        ] refl (sym (value_for-with R o es k v q) ∙ is)
       where
         some : (v y : X) → ◌≡◌ {A = Option X} (Some v) (Some y) → v ≡ y
         some v y is = cc
 
-    pub without_cases : (es : List (K × X)) (k q : K) (y : X) → T (fin.is_sorted R es) → value_at R (without_key R es k) q ≡ Some y → (eq_by_cmp R q k ≡ false) × (value_at R es q ≡ Some y)
+    pub without_cases : (es : List (K × X)) (k q : K) (y : X) → T (fin.is_sorted R es) → value_for R (without_key R es k) q ≡ Some y → (eq_by_cmp R q k ≡ false) × (value_for R es q ≡ Some y)
     without_cases es k q y sorted is =
-        elim (eq_by_cmp R q k) as (λ b. eq_by_cmp R q k ≡ b → cond b None (value_at R es q) ≡ Some y → (eq_by_cmp R q k ≡ false) × (value_at R es q ≡ Some y)) [
+        elim (eq_by_cmp R q k) as (λ b. eq_by_cmp R q k ≡ b → cond b None (value_for R es q) ≡ Some y → (eq_by_cmp R q k ≡ false) × (value_for R es q ≡ Some y)) [
           | true ↦ λ tie bad. absurd cc
           | false ↦ λ apart found. (apart, found)
-        ] refl (sym (value_at-without R o es k q sorted) ∙ is)
+        ] refl (sym (value_for-without R o es k q sorted) ∙ is)
 
     -- to take a key away that isn't there changes nothing
-    pub without_absent : (es : List (K × X)) (k : K) → value_at R es k ≡ None → without_key R es k ≡ es
+    pub without_absent : (es : List (K × X)) (k : K) → value_for R es k ≡ None → without_key R es k ≡ es
     without_absent [] k none = refl
     without_absent (e ∷ es) k none =
-        elim (eq_by_cmp R k e.0) as (λ b. cond b (Some e.1) (value_at R es k) ≡ None → cond b es (e ∷ without_key R es k) ≡ e ∷ es) [
+        elim (eq_by_cmp R k e.0) as (λ b. cond b (Some e.1) (value_for R es k) ≡ None → cond b es (e ∷ without_key R es k) ≡ e ∷ es) [
           | true ↦ λ bad. absurd cc
           | false ↦ λ rest. ap (λ (xs : List (K × X)). e ∷ xs) (without_absent es k rest)
         ] none
 
     -- to put what a key has changes nothing
-    pub with_same : (es : List (K × X)) (k : K) (v : X) → T (fin.is_sorted R es) → value_at R es k ≡ Some v → with_value R es k v ≡ es
+    pub with_same : (es : List (K × X)) (k : K) (v : X) → T (fin.is_sorted R es) → value_for R es k ≡ Some v → with_value R es k v ≡ es
     with_same es k v sorted is = same_values R o exact _ _ (sorted_with R o es k v sorted) sorted (λ q.
-        value_at-with R o es k v q
-        ∙ elim (eq_by_cmp R q k) as (λ b. eq_by_cmp R q k ≡ b → cond b (Some v) (value_at R es q) ≡ value_at R es q) [
-          | true ↦ λ tie. sym (ap (value_at R es) (same_key q k tie) ∙ is)
+        value_for-with R o es k v q
+        ∙ elim (eq_by_cmp R q k) as (λ b. eq_by_cmp R q k ≡ b → cond b (Some v) (value_for R es q) ≡ value_for R es q) [
+          | true ↦ λ tie. sym (ap (value_for R es) (same_key q k tie) ∙ is)
           | false ↦ λ _. refl
         ] refl)
 
     -- an entry of a map is what is found at its key
-    absent_below : (q : K) (es : List (K × X)) → T (fin.below_all R q es) → value_at R es q ≡ None
+    absent_below : (q : K) (es : List (K × X)) → T (fin.below_all R q es) → value_for R es q ≡ None
     absent_below q [] below = refl
-    absent_below q (e ∷ es) below = ap (λ r. cond (is_eq r) (Some e.1) (value_at R es q)) (ordering_less (R q e.0) (first _ _ below)) ∙ absent_below q es (second _ _ below)
+    absent_below q (e ∷ es) below = ap (λ r. cond (is_eq r) (Some e.1) (value_for R es q)) (ordering_less (R q e.0) (first _ _ below)) ∙ absent_below q es (second _ _ below)
 
-    pub later_found : (e : K × X) (es : List (K × X)) (q : K) (y : X) → T (fin.is_sorted R (e ∷ es)) → value_at R es q ≡ Some y → value_at R (e ∷ es) q ≡ Some y
+    pub later_found : (e : K × X) (es : List (K × X)) (q : K) (y : X) → T (fin.is_sorted R (e ∷ es)) → value_for R es q ≡ Some y → value_for R (e ∷ es) q ≡ Some y
     later_found e es q y sorted is =
-        elim (eq_by_cmp R q e.0) as (λ b. eq_by_cmp R q e.0 ≡ b → cond b (Some e.1) (value_at R es q) ≡ Some y) [
-          | true ↦ λ tie. absurd (let none = ap (value_at R es) (same_key q e.0 tie) ∙ absent_below e.0 es (first _ _ sorted) in let bad = sym is ∙ none in cc)
+        elim (eq_by_cmp R q e.0) as (λ b. eq_by_cmp R q e.0 ≡ b → cond b (Some e.1) (value_for R es q) ≡ Some y) [
+          | true ↦ λ tie. absurd (let none = ap (value_for R es) (same_key q e.0 tie) ∙ absent_below e.0 es (first _ _ sorted) in let bad = sym is ∙ none in cc)
           | false ↦ λ _. is
         ] refl
 
-    pub own_found : (e : K × X) (es : List (K × X)) → value_at R (e ∷ es) e.0 ≡ Some e.1
-    own_found e es = ap (λ b. cond b (Some e.1) (value_at R es e.0)) (own_key e.0)
+    pub own_found : (e : K × X) (es : List (K × X)) → value_for R (e ∷ es) e.0 ≡ Some e.1
+    own_found e es = ap (λ b. cond b (Some e.1) (value_for R es e.0)) (own_key e.0)
 
     -- where what is found at each key passes a test, all entries do
-    pub all_pass : (p : X → Bool) (es : List (K × X)) → T (fin.is_sorted R es) → ((q : K) (y : X) → value_at R es q ≡ Some y → p y ≡ true) → filter (λ e. p e.1) es ≡ es
+    pub all_pass : (p : X → Bool) (es : List (K × X)) → T (fin.is_sorted R es) → ((q : K) (y : X) → value_for R es q ≡ Some y → p y ≡ true) → filter (λ e. p e.1) es ≡ es
     all_pass p [] sorted passes = refl
     all_pass p (e ∷ es) sorted passes =
         ap (λ b. cond b (e ∷ filter (λ f. p f.1) es) (filter (λ f. p f.1) es)) (passes e.0 e.1 (own_found e es))
         ∙ ap (λ (xs : List (K × X)). e ∷ xs) (all_pass p es (second _ _ sorted) (λ q y is. passes q y (later_found e es q y sorted is)))
 
     -- the first entry whose value passes a test is one that passes; where there is none, no value passes
-    pub first_passes : (p : X → Bool) (es : List (K × X)) (e : K × X) → T (fin.is_sorted R es) → find (λ f. p f.1) es ≡ Some e → (p e.1 ≡ true) × (value_at R es e.0 ≡ Some e.1)
+    pub first_passes : (p : X → Bool) (es : List (K × X)) (e : K × X) → T (fin.is_sorted R es) → find (λ f. p f.1) es ≡ Some e → (p e.1 ≡ true) × (value_for R es e.0 ≡ Some e.1)
     first_passes p [] e sorted is = absurd cc
     first_passes p (f ∷ es) e sorted is =
-        elim (p f.1) as (λ b. p f.1 ≡ b → cond b (Some f) (find (λ f. p f.1) es) ≡ Some e → (p e.1 ≡ true) × (value_at R (f ∷ es) e.0 ≡ Some e.1)) [
-          | true ↦ λ passes found. let same = some f e found in (ap (λ (x : K × X). p x.1) (sym same) ∙ passes, subst (λ (x : K × X). value_at R (f ∷ es) x.0 ≡ Some x.1) same (own_found f es))
+        elim (p f.1) as (λ b. p f.1 ≡ b → cond b (Some f) (find (λ f. p f.1) es) ≡ Some e → (p e.1 ≡ true) × (value_for R (f ∷ es) e.0 ≡ Some e.1)) [
+          | true ↦ λ passes found. let same = some f e found in (ap (λ (x : K × X). p x.1) (sym same) ∙ passes, subst (λ (x : K × X). value_for R (f ∷ es) x.0 ≡ Some x.1) same (own_found f es))
           | false ↦ λ _ found. let rest = first_passes p es e (second _ _ sorted) found in (rest.0, later_found f es e.0 e.1 sorted rest.1)
         ] refl is
       where
         some : (x y : K × X) → ◌≡◌ {A = Option (K × X)} (Some x) (Some y) → x ≡ y
         some x y is = cc
 
-    pub none_passes : (p : X → Bool) (es : List (K × X)) (q : K) (y : X) → find (λ f. p f.1) es ≡ None → value_at R es q ≡ Some y → p y ≡ false
+    pub none_passes : (p : X → Bool) (es : List (K × X)) (q : K) (y : X) → find (λ f. p f.1) es ≡ None → value_for R es q ≡ Some y → p y ≡ false
     none_passes p [] q y none is = absurd cc
     none_passes p (f ∷ es) q y none is =
         elim (p f.1) as (λ b. p f.1 ≡ b → cond b (Some f) (find (λ f. p f.1) es) ≡ None → p y ≡ false) [
           | true ↦ λ _ bad. absurd cc
-          | false ↦ λ fails rest. elim (eq_by_cmp R q f.0) as (λ b. cond b (Some f.1) (value_at R es q) ≡ Some y → p y ≡ false) [
+          | false ↦ λ fails rest. elim (eq_by_cmp R q f.0) as (λ b. cond b (Some f.1) (value_for R es q) ≡ Some y → p y ≡ false) [
             | true ↦ λ found. ap p (sym (some f.1 y found)) ∙ fails
             | false ↦ λ found. none_passes p es q y rest found
           ] is
@@ -254,3 +254,8 @@ module _ {K X Y : Type 0} (R : K → K → Ordering) (g : X → Y) where
   pub sorted-values : (es : List (K × X)) → T (fin.is_sorted R es) → T (fin.is_sorted R (with_values es))
   sorted-values [] sorted = tt
   sorted-values (e ∷ es) sorted = both _ _ (below-values e.0 es (first _ _ sorted)) (sorted-values es (second _ _ sorted))
+
+  -- a list whose values are mapped, in the order of its keys
+  pub sorted-with_values : (es : List (K × X)) → sorted_entries R (with_values es) ≡ with_values (sorted_entries R es)
+  sorted-with_values [] = refl
+  sorted-with_values (e ∷ es) = ap (λ (xs : List (K × Y)). with_value R xs e.0 (g e.1)) (sorted-with_values es) ∙ sym (values-with (sorted_entries R es) e.0 e.1)

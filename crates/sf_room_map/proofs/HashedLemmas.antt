@@ -17,9 +17,9 @@ use Rattle.std.proofs.lemmas.List.Sorted.{IsPermutation-map, IsPermutation-sym, 
 use Rattle.std.proofs.lemmas.List.{get_or-map, length-map}
 use Rattle.std.proofs.lemmas.Option.{slice_get-get_or, slice_get_within}
 use Rattle.sf_types.proofs.NameMapLemmas.{equal, sorted_from_ordered}
-use Rattle.sf_room_map.specs.Entries.{value_at, with_value, without_key}
+use Rattle.sf_room_map.specs.Entries.{value_for, with_value, without_key}
 use Rattle.sf_room_map.specs.Inside.Sorted.{sorted_entries}
-use Rattle.sf_room_map.proofs.EntryLemmas.{find_is, are_sorted, length_sorted, find_sorted, same_values, sorted_with, sorted_without, value_at-with, value_at-without}
+use Rattle.sf_room_map.proofs.EntryLemmas.{find_is, are_sorted, length_sorted, find_sorted, same_values, sorted_with, sorted_without, value_for-with, value_for-without}
 
 find_by : {K X : Type 0} (R : K → K → Ordering) (eq : K → K → Bool) → ((a b : K) → eq a b ≡ eq_by_cmp R a b) → (es : List (K × X)) (q : K) → fin.find R q es ≡ lookup (eq q) es
 find_by R eq ties [] q = refl
@@ -37,7 +37,7 @@ apart_by R eq ties (k ∷ ks) apart = (all_by R eq ties k ks apart.0, apart_by R
 
 module _ {K X S : Type 0} (R : K → K → Ordering) (eq : K → K → Bool) (o : IsTotalOrder R) (exact : IsAntisymmetric R) (ties : (a b : K) → eq a b ≡ eq_by_cmp R a b) where
   -- a look-up in them
-  pub get_is : (m : HashMap K X S) (q : K) → value_at R (sorted_entries R m.entries) q ≡ get eq m q
+  pub get_is : (m : HashMap K X S) (q : K) → value_for R (sorted_entries R m.entries) q ≡ get eq m q
   get_is m q = find_sorted R o m.entries q ∙ find_by R eq ties m.entries q
 
   -- they are as many
@@ -56,7 +56,7 @@ module _ {K X S : Type 0} (R : K → K → Ordering) (eq : K → K → Bool) (o 
       get_is n q ∙ is q
       ∙ ap (λ b. cond b (Some v) (get eq m q)) (ties k q ∙ (eq_by_cmp_equiv o).symm k q)
       ∙ ap (cond (eq_by_cmp R q k) (Some v)) (sym (get_is m q))
-      ∙ sym (value_at-with R o old k v q))
+      ∙ sym (value_for-with R o old k v q))
 
   pub taken_out : (m n : HashMap K X S) (k : K) → ((q : K) → get eq n q ≡ cond (eq k q) None (get eq m q)) → sorted_entries R n.entries ≡ without_key R (sorted_entries R m.entries) k
   taken_out m n k is =
@@ -65,7 +65,7 @@ module _ {K X S : Type 0} (R : K → K → Ordering) (eq : K → K → Bool) (o 
       get_is n q ∙ is q
       ∙ ap (λ b. cond b None (get eq m q)) (ties k q ∙ (eq_by_cmp_equiv o).symm k q)
       ∙ ap (cond (eq_by_cmp R q k) None) (sym (get_is m q))
-      ∙ sym (value_at-without R o old k q (are_sorted R o m.entries)))
+      ∙ sym (value_for-without R o old k q (are_sorted R o m.entries)))
 
 no_length : {A : Type 0} (xs : List A) → length xs ≡ 0 → xs ≡ []
 no_length [] none = refl

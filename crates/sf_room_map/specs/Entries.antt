@@ -7,8 +7,8 @@ use Rattle.std.specs.Map.{lookup, remove_entry}
 use Rattle.std.specs.BTreeMap.{insert_entry}
 
 -- What a map has at a key.
-abbrev pub value_at : {K X : Type 0} → (K → K → Ordering) → List (K × X) → K → Option X
-value_at order entries key = lookup (λ other. is_eq (order key other)) entries
+abbrev pub value_for : {K X : Type 0} → (K → K → Ordering) → List (K × X) → K → Option X
+value_for order entries key = lookup (λ other. is_eq (order key other)) entries
 
 -- The map with this value at a key, and all else as before.
 abbrev pub with_value : {K X : Type 0} → (K → K → Ordering) → List (K × X) → K → X → List (K × X)
@@ -20,4 +20,4 @@ without_key order entries key = remove_entry (λ other. is_eq (order key other))
 
 -- The number of entries that a value put at a key adds: one where the key is new.
 abbrev pub added_at : {K X : Type 0} → (K → K → Ordering) → List (K × X) → K → ℕ
-added_at order entries key = if is_some (value_at order entries key) then 0 else 1
+added_at order entries key = if is_some (value_for order entries key) then 0 else 1

@@ -1,8 +1,10 @@
 //! A finite map that makes room ahead of what it is to hold.
 #![tactic(auto)]
 
+mod change;
 mod key;
 mod room_map;
 
+pub use change::Change;
 pub use key::RoomKey;
 pub use room_map::RoomMap;

@@ -5,8 +5,9 @@ ghost use Rattle.std.specs.Map.{keys_of};
 ghost use Rattle.std.specs.Map.Iter.{deref_pair};
 ghost use Rattle.std.specs.List.Sorted.{IsStrictlySortedBy};
 ghost use Rattle.sf_types.specs.Rooms.{MakesRoom, GrowsWithin};
-ghost use Rattle.sf_room_map.specs.Entries.{value_at, with_value, without_key, added_at};
+ghost use Rattle.sf_room_map.specs.Entries.{value_for, with_value, without_key, added_at};
 
+use crate::change::Change;
 use crate::key::RoomKey;
 use sf_types::Mem;
 use std::alloc::Global;
@@ -73,22 +74,22 @@ impl<K: RoomKey, V> RoomMap<K, V> {
 
     /// The value at a key.
     pub fn get(&self, key: &K) -> Option<&V>
-        ensures { option_copied result ≡ value_at K.cmp self.now.held key.now }
+        ensures { option_copied result ≡ value_for K.cmp self.now.held key.now }
     {
         self.entries.get(key)
     }
 
     /// Whether there is a value at a key.
     pub fn contains_key(&self, key: &K) -> bool
-        ensures { result ≡ is_some (value_at K.cmp self.now.held key.now) }
+        ensures { result ≡ is_some (value_for K.cmp self.now.held key.now) }
     {
         self.get(key).is_some()
     }
 
     /// Puts a value at a key that is there, and gives the one that it had. It takes no memory.
     pub fn replace(&mut self, key: &K, value: V) -> V
-        requires { IsSome (value_at K.cmp self.old.held key.now) }
-        ensures value { value_at K.cmp self.old.held key.now ≡ Some result }
+        requires { IsSome (value_for K.cmp self.old.held key.now) }
+        ensures value { value_for K.cmp self.old.held key.now ≡ Some result }
         ensures held { self.new.held ≡ with_value K.cmp self.old.held key.now value }
         ensures spare { self.new.spare ≡ self.old.spare }
     {
@@ -124,7 +125,7 @@ impl<K: RoomKey + Drop, V: Drop> RoomMap<K, V> {
     /// takes no memory.
     pub fn insert_within(&mut self, key: K, value: V) -> Option<V>
         requires { added_at K.cmp self.old.held key ≤ self.old.spare }
-        ensures value { result ≡ value_at K.cmp self.old.held key }
+        ensures value { result ≡ value_for K.cmp self.old.held key }
         ensures held { self.new.held ≡ with_value K.cmp self.old.held key value }
         ensures spare { self.old.spare ≤ self.new.spare + added_at K.cmp self.old.held key }
     {
@@ -139,7 +140,7 @@ impl<K: RoomKey + Drop, V: Drop> RoomMap<K, V> {
     /// Puts a value at a key, and gives the one that it had. At a key that is there it takes no memory. After want of memory
     /// nothing has changed.
     pub fn insert(&mut self, key: K, value: V) -> Mem<Option<V>>
-        ensures value { IfOk result (λ old. old ≡ value_at K.cmp self.old.held key) }
+        ensures value { IfOk result (λ old. old ≡ value_for K.cmp self.old.held key) }
         ensures held { OnOk result (self.new.held ≡ with_value K.cmp self.old.held key value) }
         ensures room { GrowsWithin self.old self.new (added_at K.cmp self.old.held key) (added_at K.cmp self.old.held key) result }
     {
@@ -151,10 +152,20 @@ impl<K: RoomKey + Drop, V: Drop> RoomMap<K, V> {
 
     /// Takes the entry of a key away, and gives its value. It takes no memory.
     pub fn remove(&mut self, key: &K) -> Option<V>
-        ensures value { result ≡ value_at K.cmp self.old.held key.now }
+        ensures value { result ≡ value_for K.cmp self.old.held key.now }
         ensures held { self.new.held ≡ without_key K.cmp self.old.held key.now }
         ensures spare { self.old.spare ≤ self.new.spare }
     {
         self.entries.remove(key)
+    }
+    /// Makes a change to every value. It takes no memory.
+    pub fn change_values<C: Change<V>>(&mut self, change: &C)
+        ensures held { self.new.held ≡ map (λ e. (e.0, C.changed change.now e.1)) self.old.held }
+        ensures spare { self.old.spare ≤ self.new.spare }
+    {
+        self.entries.retain(|_key, value| {
+            change.change(value);
+            true
+        });
     }
 }

@@ -1,2 +1,4 @@
 pub mod SlotLemmas
+pub mod AddedRowLemmas
+pub mod DroppedRowLemmas
 pub mod LockLemmas

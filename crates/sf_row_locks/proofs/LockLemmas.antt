@@ -10,7 +10,7 @@ use Rattle.sf_types.proofs.NumberLemmas.{same_number, own_number}
 use Rattle.sf_room_map.proofs.EntryLemmas as entry
 use Rattle.sf_row_locks.specs.declared.slot.Slot.{Slot}
 use Rattle.sf_row_locks.specs.Locks.{locks_asked, locks_released}
-use Rattle.sf_row_locks.specs.Inside.Slots.{SlotRows, Counts, slot_of, count_of, locks_in, AreSlotted}
+use Rattle.sf_row_locks.specs.Inside.Slots.{SlotRows, Counts, slot_of, row_count, locks_in, AreSlotted}
 use Rattle.sf_row_locks.proofs.SlotLemmas.{names_exact, session_in}
 
 -- what is left of a session's locks after one of them was released goes with the others
@@ -30,11 +30,11 @@ fewer_locks (e ∷ m) s row held =
       | false ↦ λ rest. let fewer = fewer_locks m s row rest in omega (arith, fewer)
     ] held
 
-pub held_by : (m : NameMap ℕ) (s : ℕ) (row : List ℕ) → get m row ≡ Some s → holds_lock m s row ≡ true
-held_by m s row is = ap (λ x. option_map_or (λ holder. holder == s) x false) is ∙ own_number s
+pub lock_is_held : (m : NameMap ℕ) (s : ℕ) (row : List ℕ) → get m row ≡ Some s → holds_lock m s row ≡ true
+lock_is_held m s row is = ap (λ x. option_map_or (λ holder. holder == s) x false) is ∙ own_number s
 
 -- a session without rows holds no lock
-pub none_held : (locks : NameMap Slot) (rows : SlotRows) (counts : Counts) (s : ℕ) → AreSlotted locks rows counts → count_of counts s ≡ 0 → without_locks (locks_in locks) s ≡ locks_in locks
+pub none_held : (locks : NameMap Slot) (rows : SlotRows) (counts : Counts) (s : ℕ) → AreSlotted locks rows counts → row_count counts s ≡ 0 → without_locks (locks_in locks) s ≡ locks_in locks
 none_held locks rows counts s slotted none =
     entry.all_pass name_cmp nat_list_cmp_total names_exact (λ holder. not (holder == s)) (locks_in locks) (entry.sorted-values name_cmp (λ (x : Slot). x.session) locks slotted.rising) (λ row holder is.
     elim (slot_of locks row) as (λ r. slot_of locks row ≡ r → option_map (λ (x : Slot). x.session) r ≡ Some holder → not (holder == s) ≡ true) [
@@ -43,7 +43,7 @@ none_held locks rows counts s slotted none =
           let less = slotted.below slot row (slotted.stands row slot found) in
           let session : slot.session ≡ holder = some slot.session holder own in
           elim (holder == s) as (λ t. (holder == s) ≡ t → not t ≡ true) [
-            | true ↦ λ same. absurd (let zero_rows : count_of counts slot.session ≡ 0 = ap (count_of counts) (session ∙ same_number holder s same) ∙ none in omega (arith, less, zero_rows))
+            | true ↦ λ same. absurd (let zero_rows : row_count counts slot.session ≡ 0 = ap (row_count counts) (session ∙ same_number holder s same) ∙ none in omega (arith, less, zero_rows))
             | false ↦ λ _. refl
           ] refl
     ] refl (sym (session_in locks row) ∙ is))

@@ -5,7 +5,7 @@ ghost use Rattle.sf_types.specs.Rooms.{MakesRoom, GrowsWithin};
 ghost use Rattle.sf_types.specs.Inside.NameMaps.{get, with_entry, without_entry};
 ghost use Rattle.sf_types.specs.Table.Sessions.{is_busy, without_locks};
 ghost use Rattle.sf_row_locks.specs.Locks.{locks_asked, locks_added, locks_released};
-ghost use Rattle.sf_row_locks.specs.Inside.Slots.{slot_of, row_in, count_of, locks_in, AreSlotted, ReleasesOne};
+ghost use Rattle.sf_row_locks.specs.Inside.Slots.{slot_of, row_in, row_count, locks_in, AreSlotted, ReleasesOne};
 
 use crate::row_key::RowKey;
 use crate::slot::Slot;
@@ -37,8 +37,8 @@ impl Model for RowLocks {
 }
 
 // The number of rows of a session.
-fn count_of(counts: &RoomMap<u16, u64>, session: u16) -> u64
-    ensures { result ≡ count_of counts.now.held session }
+fn row_count(counts: &RoomMap<u16, u64>, session: u16) -> u64
+    ensures { result ≡ row_count counts.now.held session }
 {
     match counts.get(&session) {
         Some(count) => *count,
@@ -47,7 +47,7 @@ fn count_of(counts: &RoomMap<u16, u64>, session: u16) -> u64
 }
 
 // Puts a row that nobody has locked behind the rows of a session. It takes no memory.
-fn settle(
+fn add_row(
     locks: &mut RoomMap<RowKey, Slot>,
     rows: &mut RoomMap<Slot, RowKey>,
     counts: &mut RoomMap<u16, u64>,
@@ -67,7 +67,7 @@ fn settle(
 {
     // A session has no more rows than there are slots, so that one more can be counted.
     let _rows = rows.len();
-    let at = count_of(counts, session);
+    let at = row_count(counts, session);
     let slot = Slot { session, at };
     rows.insert_within(slot, row.again());
     locks.insert_within(row, slot);
@@ -76,7 +76,7 @@ fn settle(
 
 // Takes out the row in a slot. The last row of its session moves into the slot, so that the slots stay without a gap. It takes
 // no memory.
-fn vacate(
+fn drop_row(
     locks: &mut RoomMap<RowKey, Slot>,
     rows: &mut RoomMap<Slot, RowKey>,
     counts: &mut RoomMap<u16, u64>,
@@ -93,7 +93,7 @@ fn vacate(
 {
     let last = Slot {
         session: slot.session,
-        at: count_of(counts, slot.session) - 1,
+        at: row_count(counts, slot.session) - 1,
     };
     let Some(moved) = rows.remove(&last) else {
         unreachable!();
@@ -149,7 +149,7 @@ impl RowLocks {
             return Ok(holder == session);
         }
         self.make_room(1)?;
-        settle(
+        add_row(
             &mut self.locks,
             &mut self.rows,
             &mut self.counts,
@@ -170,7 +170,7 @@ impl RowLocks {
         };
         let slot = *slot;
         if slot.session == session {
-            vacate(
+            drop_row(
                 &mut self.locks,
                 &mut self.rows,
                 &mut self.counts,
@@ -187,7 +187,7 @@ impl RowLocks {
         ensures unchanged { OnFalse result (self.new.held ≡ self.old.held) }
         ensures spare { self.old.spare ≤ self.new.spare }
     {
-        let count = count_of(&self.counts, session);
+        let count = row_count(&self.counts, session);
         if count == 0 {
             return false;
         }
@@ -199,7 +199,7 @@ impl RowLocks {
             unreachable!();
         };
         let row = row.again();
-        vacate(
+        drop_row(
             &mut self.locks,
             &mut self.rows,
             &mut self.counts,

@@ -3,7 +3,7 @@ ghost use Rattle.sf_row_locks.specs.Inside.SlotOrder.{slots_exact};
 
 use sf_room_map::RoomKey;
 
-/// The place of a row among those that a session has locked, counted from 0.
+/// Where a row stands among those that a session has locked, counted from 0.
 #[derive(Clone, Copy, Debug, PartialEq, Eq, PartialOrd, Ord, Hash)]
 pub struct Slot {
     pub session: u16,

@@ -38,7 +38,7 @@ fn prints_of_a_list_are_in_order(rt: HostRuntime) -> Result<(), Fail> {
     let mut contents = BlobList::new(alloc);
     contents.push(Blob::new(alloc, b"abc")?)?;
     contents.push(Blob::new(alloc, b"")?)?;
-    let prints = PlainPrinter.prints(&rt, alloc, &contents)?;
+    let prints = PlainPrinter.prints(&rt, alloc, &contents)?.copy()?;
     assert_eq!(rt; prints.len(), contents.len());
     for (print, content) in prints.as_slice().iter().zip(contents.as_slice()) {
         assert_eq!(rt; print.sum, print_of(content).sum);

@@ -1,5 +1,7 @@
+ghost use Rattle.std.specs.Prelude.{◌/◌};
+
 use crate::names::row_name;
-use sf_room_map::RoomMap;
+use sf_room_map::{Change, RoomMap};
 use sf_types::{Mem, Name};
 use std::alloc::Global;
 use std::test::*;
@@ -23,6 +25,27 @@ fn lists_in_the_order_of_keys(rt: HostRuntime) -> Result<(), Fail> {
         assert_eq!(rt; entry.0.as_bytes(), name.as_slice());
         assert_eq!(rt; *entry.1, value);
     }
+    Ok(())
+}
+
+// Half of a number, rounded down.
+struct Half;
+
+impl Change<u64> for Half {
+    ghost changed = { λ half value. value / 2 };
+
+    fn change(&self, value: &mut u64) {
+        *value /= 2;
+    }
+}
+
+#[test]
+fn changes_every_value(rt: HostRuntime) -> Result<(), Fail> {
+    let alloc = rt.alloc();
+    let mut rows = two_rows(alloc)?;
+    rows.change_values(&Half);
+    assert_eq!(rt; rows.get(&row_name(alloc, b"a")?).copied(), Some(0));
+    assert_eq!(rt; rows.get(&row_name(alloc, b"b")?).copied(), Some(1));
     Ok(())
 }
 

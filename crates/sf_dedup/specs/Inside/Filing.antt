@@ -1,22 +1,22 @@
 -- How births stand under the digests of their contents (our own).
 use Rattle.std.specs.Prelude.{◌≡◌, ◌==◌, ◌||◌, ℕ, Bool, true, false, not, T, List, [], ◌∷◌, ◌++◌, map, filter, is_some, if◌then◌else◌, Option, Some}
-use Rattle.std.specs.List.{list_any}
 use Rattle.std.specs.Option.{option_map, option_map_or}
 use Rattle.std.specs.Ordering.{nat_cmp}
 use Rattle.std.specs.Cmp.Lexicographic.{slice_cmp}
 use Rattle.std.specs.FinMap.Entries.{is_sorted}
-use Rattle.sf_room_map.specs.Entries.{value_at, with_value, without_key}
-use Rattle.sf_dedup.specs.declared.index.Filed.{Filed}
+use Rattle.sf_types.specs.Play.Blocks.{is_among}
+use Rattle.sf_room_map.specs.Entries.{value_for, with_value, without_key}
+use Rattle.sf_dedup.specs.declared.index.IndexEntry.{IndexEntry}
 use Rattle.sf_dedup.specs.Prints.{print_of}
 use Rattle.sf_dedup.specs.Contents.{Contents, content_at, has_content}
 
 -- What an index keeps of each birth.
-abbrev pub FiledMap : Type 0
-FiledMap = List (ℕ × Filed)
+abbrev pub EntryMap : Type 0
+EntryMap = List (ℕ × IndexEntry)
 
 -- The contents without their prints.
-abbrev pub contents_in : FiledMap → Contents
-contents_in m = map (λ e. (e.0, e.1.content)) m
+abbrev pub plain_contents : EntryMap → Contents
+plain_contents m = map (λ e. (e.0, e.1.content)) m
 
 -- The births that came first with their digests.
 abbrev pub Firsts : Type 0
@@ -24,15 +24,11 @@ Firsts = List (List ℕ × ℕ)
 
 -- The birth that stands under a digest.
 abbrev pub first_at : Firsts → List ℕ → Option ℕ
-first_at firsts sum = value_at (slice_cmp nat_cmp) firsts sum
+first_at firsts sum = value_for (slice_cmp nat_cmp) firsts sum
 
 -- Whether this birth stands under a digest.
 abbrev pub is_first : Firsts → List ℕ → ℕ → Bool
 is_first firsts sum birth = option_map_or (λ first. birth == first) (first_at firsts sum) false
-
--- Whether a list has a birth.
-abbrev pub is_among : List ℕ → ℕ → Bool
-is_among births birth = list_any (λ other. birth == other) births
 
 -- A new birth stands under its digest, or with the others where the digest is taken.
 abbrev pub firsts_with : Firsts → List ℕ → ℕ → Firsts
@@ -54,11 +50,11 @@ NoneHas contents births bytes = (birth : ℕ) → is_among births birth ≡ true
 
 -- Births rise, each print is that of its content, and no two contents are equal. The birth under a digest is there and has
 -- that digest; each birth stands under its digest or among the others; and the others are there.
-pub record IsFiled (m : FiledMap) (firsts : Firsts) (others : List ℕ) : Type 0 where
+pub record IsFiled (m : EntryMap) (firsts : Firsts) (others : List ℕ) : Type 0 where
   pub rising : T (is_sorted nat_cmp m)
   pub ordered : T (is_sorted (slice_cmp nat_cmp) firsts)
-  pub prints : (birth : ℕ) (x : Filed) → value_at nat_cmp m birth ≡ Some x → x.print ≡ print_of x.content
-  pub apart : (birth other : ℕ) (bytes : List ℕ) → content_at (contents_in m) birth ≡ Some bytes → content_at (contents_in m) other ≡ Some bytes → birth ≡ other
-  pub under : (sum : List ℕ) (birth : ℕ) → first_at firsts sum ≡ Some birth → option_map (λ x. x.print.sum) (value_at nat_cmp m birth) ≡ Some sum
-  pub stands : (birth : ℕ) (x : Filed) → value_at nat_cmp m birth ≡ Some x → (is_first firsts x.print.sum birth || is_among others birth) ≡ true
-  pub there : (birth : ℕ) → is_among others birth ≡ true → is_some (value_at nat_cmp m birth) ≡ true
+  pub prints : (birth : ℕ) (x : IndexEntry) → value_for nat_cmp m birth ≡ Some x → x.print ≡ print_of x.content
+  pub apart : (birth other : ℕ) (bytes : List ℕ) → content_at (plain_contents m) birth ≡ Some bytes → content_at (plain_contents m) other ≡ Some bytes → birth ≡ other
+  pub under : (sum : List ℕ) (birth : ℕ) → first_at firsts sum ≡ Some birth → option_map (λ x. x.print.sum) (value_for nat_cmp m birth) ≡ Some sum
+  pub stands : (birth : ℕ) (x : IndexEntry) → value_for nat_cmp m birth ≡ Some x → (is_first firsts x.print.sum birth || is_among others birth) ≡ true
+  pub there : (birth : ℕ) → is_among others birth ≡ true → is_some (value_for nat_cmp m birth) ≡ true

@@ -6,7 +6,7 @@ use Rattle.std.proofs.lemmas.Map.Lookups.{exact_pairs, exact_unsigned}
 use Rattle.std.specs.FinMap.{IsAntisymmetric}
 use Rattle.sf_row_locks.specs.declared.slot.Slot.{Slot}
 
--- By session, and then by place.
+-- By session, and then by number.
 abbrev pub slot_cmp : Slot → Slot → Ordering
 slot_cmp a b = ordering_then (nat_cmp a.session b.session) (nat_cmp a.at b.at)
 

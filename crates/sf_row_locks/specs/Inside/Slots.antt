@@ -5,7 +5,7 @@ use Rattle.std.specs.FinMap.Entries.{is_sorted}
 use Rattle.sf_types.specs.Values.Names.{name_cmp}
 use Rattle.sf_types.specs.Inside.NameMaps.{NameMap, without_entry}
 use Rattle.sf_types.specs.Table.Sessions.{holds_lock}
-use Rattle.sf_room_map.specs.Entries.{value_at, with_value, without_key}
+use Rattle.sf_room_map.specs.Entries.{value_for, with_value, without_key}
 use Rattle.sf_row_locks.specs.declared.slot.Slot.{Slot}
 use Rattle.sf_row_locks.specs.Inside.SlotOrder.{slot_cmp}
 
@@ -22,13 +22,13 @@ slot_at session at = record { session = session; at = at }
 
 -- The slot of a row, the row in a slot, and the number of a session's rows.
 abbrev pub slot_of : NameMap Slot → List ℕ → Option Slot
-slot_of locks row = value_at name_cmp locks row
+slot_of locks row = value_for name_cmp locks row
 
 abbrev pub row_in : SlotRows → Slot → Option (List ℕ)
-row_in rows slot = value_at slot_cmp rows slot
+row_in rows slot = value_for slot_cmp rows slot
 
-abbrev pub count_of : Counts → ℕ → ℕ
-count_of counts session = unwrap_or (value_at nat_cmp counts session) 0
+abbrev pub row_count : Counts → ℕ → ℕ
+row_count counts session = unwrap_or (value_for nat_cmp counts session) 0
 
 -- The maps with one entry changed.
 abbrev pub with_slot : NameMap Slot → List ℕ → Slot → NameMap Slot
@@ -57,8 +57,8 @@ pub record AreSlotted (locks : NameMap Slot) (rows : SlotRows) (counts : Counts)
   pub numbered : T (is_sorted nat_cmp counts)
   pub stands : (row : List ℕ) (slot : Slot) → slot_of locks row ≡ Some slot → row_in rows slot ≡ Some row
   pub has : (slot : Slot) (row : List ℕ) → row_in rows slot ≡ Some row → slot_of locks row ≡ Some slot
-  pub below : (slot : Slot) (row : List ℕ) → row_in rows slot ≡ Some row → slot.at < count_of counts slot.session
-  pub filled : (session at : ℕ) → at < count_of counts session → is_some (row_in rows (slot_at session at)) ≡ true
+  pub below : (slot : Slot) (row : List ℕ) → row_in rows slot ≡ Some row → slot.at < row_count counts slot.session
+  pub filled : (session at : ℕ) → at < row_count counts session → is_some (row_in rows (slot_at session at)) ≡ true
 
 -- One row's lock of a session is released.
 pub record ReleasesOne (before after : NameMap ℕ) (session : ℕ) : Type 0 where

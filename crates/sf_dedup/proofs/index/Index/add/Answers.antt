@@ -1,14 +1,15 @@
 use Rattle.std.proofs.Common.{◌∙◌, ap}
-use Rattle.sf_dedup.specs.declared.index.Filed.{Filed}
+use Rattle.sf_dedup.specs.declared.index.IndexEntry.{IndexEntry}
 use Rattle.sf_dedup.specs.Contents.{content_at, birth_with, with_content}
-use Rattle.sf_dedup.specs.Inside.Filing.{contents_in}
-use Rattle.sf_dedup.proofs.FilingLemmas.{none_kept, more_filed, contents_with}
+use Rattle.sf_dedup.specs.Inside.Filing.{plain_contents}
+use Rattle.sf_dedup.proofs.FilingLemmas.{none_kept, plain-with}
+use Rattle.sf_dedup.proofs.MoreLemmas.{more_filed}
 use Rattle.sf_dedup.proofs.index.Index.add.Goals as goal
 
 pub invariant_of-self : goal.invariant_of-self
 invariant_of-self c =
     let m = c.self.inside.contents.held in
-    let x : Filed = record { print = c.args.print; content = c.args.content } in
+    let x : IndexEntry = record { print = c.args.print; content = c.args.content } in
     let is = ap (λ v. v.held) c.self.view_is ∙ c.make_room.ensures.held in
     rw (c.insert_within.ensures.held, c.file.ensures.firsts, c.file.ensures.others)
     (more_filed m c.self.inside.firsts.held c.self.inside.others.items c.args.birth x c.self.invariant
@@ -19,6 +20,6 @@ invariant_of-self c =
 pub returns-clause-held : goal.returns-clause-held
 returns-clause-held c =
     let m = c.self.inside.contents.held in
-    let x : Filed = record { print = c.args.print; content = c.args.content } in
-    ap contents_in c.insert_within.ensures.held ∙ contents_with m c.args.birth x
+    let x : IndexEntry = record { print = c.args.print; content = c.args.content } in
+    ap plain_contents c.insert_within.ensures.held ∙ plain-with m c.args.birth x
     ∙ ap (λ contents. with_content contents c.args.birth c.args.content) (ap (λ v. v.held) c.self.view_is ∙ c.make_room.ensures.held)

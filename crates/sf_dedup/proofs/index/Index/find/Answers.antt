@@ -2,8 +2,8 @@ use Rattle.std.proofs.Common.{◌≡◌, ◌∙◌, ap, sym, subst, true, Some, 
 use Rattle.std.specs.Prelude.{IfSome, IfNone}
 use Rattle.std.specs.Option.{option_copied}
 use Rattle.sf_dedup.specs.Contents.{has_content, birth_with}
-use Rattle.sf_dedup.specs.Inside.Filing.{contents_in, first_at, NoneHas}
-use Rattle.sf_dedup.proofs.ContentLemmas.{found_birth, content_from_has}
+use Rattle.sf_dedup.specs.Inside.Filing.{plain_contents, first_at, NoneHas}
+use Rattle.sf_dedup.proofs.ContentLemmas.{birth_is_found, content_from_has}
 use Rattle.sf_dedup.proofs.FilingLemmas.{sorted_contents, among_found}
 use Rattle.sf_dedup.proofs.index.Index.find.Goals as goal
 use Rattle.sf_dedup.proofs.index.Index.find.Goals.{in_default-via-in-Some+else-has_content, in_default-via-in_default}
@@ -13,11 +13,11 @@ some a b is = cc
 
 pub returns-in-Some : goal.returns-in-Some
 returns-in-Some c =
-    let contents = contents_in c.self.inside.contents.held in
+    let contents = plain_contents c.self.inside.contents.held in
     let is = ap (λ v. v.held) c.self.view_is in
     let bytes = c.args.content.now in
     sym (ap (λ own. birth_with own bytes) (sym is)
-    ∙ found_birth contents c.in-Some.birth.now bytes (sorted_contents c.self.inside.contents.held c.self.invariant.rising) c.self.invariant.apart
+    ∙ birth_is_found contents c.in-Some.birth.now bytes (sorted_contents c.self.inside.contents.held c.self.invariant.rising) c.self.invariant.apart
     (content_from_has contents c.in-Some.birth.now bytes (ap (λ own. has_content own c.in-Some.birth.now bytes) is ∙ sym c.has_content.ensures ∙ c.if-has_content.true)))
 
 pub returns-in_default : goal.returns-in_default

@@ -1,7 +1,8 @@
 use Rattle.std.proofs.Common.{◌∙◌, ⊎_elim, ap, sym}
 use Rattle.std.proofs.lemmas.List.{take_all}
 use Rattle.sf_dedup.specs.Contents.{has_content}
-use Rattle.sf_dedup.specs.Inside.Filing.{is_among}
+use Rattle.sf_types.specs.Play.Blocks.{is_among}
+use Rattle.sf_dedup.specs.Inside.Filing.{}
 use Rattle.sf_dedup.proofs.FilingLemmas.{among-next}
 use Rattle.sf_dedup.proofs.index.Index.find_among.Goals as goal
 

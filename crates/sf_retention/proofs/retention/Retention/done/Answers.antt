@@ -1,12 +1,12 @@
 use Rattle.std.proofs.Common.{◌≡◌, ◌∙◌, ap, sym, subst, arith, drop}
 use Rattle.std.proofs.lemmas.List.{drop-drop}
 use Rattle.std.proofs.lemmas.List.Sorted.{IsNonDecreasingBy-drop}
-use Rattle.sf_retention.proofs.NoteLemmas.{IsRising}
+use Rattle.sf_retention.proofs.NoteLemmas.{IsInOrder}
 use Rattle.sf_retention.proofs.retention.Retention.done.Goals as goal
 
 pub invariant_of-self : goal.invariant_of-self
 invariant_of-self c =
-    subst IsRising (sym c.loop.invariant.items) (IsNonDecreasingBy-drop (λ note. note.until) c.loop.counter c.self.inside.notes.items c.self.invariant)
+    subst IsInOrder (sym c.loop.invariant.items) (IsNonDecreasingBy-drop (λ note. note.until) c.loop.counter c.self.inside.notes.items c.self.invariant)
 
 pub loop-preserved : goal.loop-preserved
 loop-preserved c = record {

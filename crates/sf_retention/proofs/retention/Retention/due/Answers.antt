@@ -2,7 +2,7 @@ use Rattle.std.proofs.Common.{◌++◌, ◌∷◌, [], List, ◌∙◌, ap, sym,
 use Rattle.std.specs.VecDeque.Iter.{deque_iter_rest}
 use Rattle.sf_retention.specs.declared.retention.Pair.{Pair}
 use Rattle.sf_retention.specs.Notes.{due_pairs}
-use Rattle.sf_retention.proofs.NoteLemmas.{IsRising, later_due, next_due, rising_rest, all_listed, no_notes}
+use Rattle.sf_retention.proofs.NoteLemmas.{IsInOrder, later_due, next_due, rising_rest, all_listed, no_notes}
 use Rattle.sf_retention.proofs.retention.Retention.due.Goals as goal
 use Rattle.sf_retention.proofs.retention.Retention.due.Goals.{in-None, in-Some+then-note-floor}
 
@@ -12,7 +12,7 @@ loop-note-init c =
     record {
       due = ap (λ (ps : List Pair). ps ++ due_pairs (deque_iter_rest c.into_iter-note-iterator.result) c.args.floor) c.new-pairs.ensures
           ∙ ap (λ notes. due_pairs notes c.args.floor) all ∙ ap (λ v. due_pairs v.held c.args.floor) c.self.view_is;
-      rising = subst IsRising (sym all) c.self.invariant;
+      rising = subst IsInOrder (sym all) c.self.invariant;
     }
 
 pub loop-note-preserved : goal.loop-note-preserved

@@ -16,15 +16,15 @@ returns-in_default-clause-held c =
     sym (released_none c.args.self.now.held c.args.session c.args.name.now
     (ap (λ v. get v.held c.args.name.now) (sym c.self.view_is) ∙ session_in locks c.args.name.now ∙ ap (option_map (λ (x : Slot). x.session)) at))
 
-pub vacate-requires-clause-row : goal.vacate-requires-clause-row
-vacate-requires-clause-row c = c.self.invariant.stands c.of-row.result c.in-Some.slot.now (sym (ap option_copied (sym c.in-Some.is) ∙ c.get.ensures))
+pub drop_row-requires-clause-row : goal.drop_row-requires-clause-row
+drop_row-requires-clause-row c = c.self.invariant.stands c.of-row.result c.in-Some.slot.now (sym (ap option_copied (sym c.in-Some.is) ∙ c.get.ensures))
 
 pub returns-then-slot-session-clause-held : goal.returns-then-slot-session-clause-held
 returns-then-slot-session-clause-held c =
     let locks = c.self.inside.locks.held in
     let at = sym (ap option_copied (sym c.in-Some.is) ∙ c.get.ensures ∙ ap (slot_of locks) c.of-row.ensures) in
     let own = ap (λ k. k == c.args.session) c.if-slot-session.true ∙ own_number c.args.session in
-    c.vacate.ensures.locks ∙ ap (without_entry (locks_in locks)) c.of-row.ensures ∙ ap (λ v. without_entry v.held c.args.name.now) c.self.view_is
+    c.drop_row.ensures.locks ∙ ap (without_entry (locks_in locks)) c.of-row.ensures ∙ ap (λ v. without_entry v.held c.args.name.now) c.self.view_is
     ∙ sym (released_own c.args.self.now.held c.args.session c.args.name.now c.in-Some.slot.now.session
     (ap (λ v. get v.held c.args.name.now) (sym c.self.view_is) ∙ session_in locks c.args.name.now ∙ ap (option_map (λ (x : Slot). x.session)) at) own)
 
