@@ -8,14 +8,14 @@ use Rattle.sf_piece_tree.specs.Contents.{joined_content}
 use Rattle.sf_piece_tree.specs.Cuts.{IsCut}
 
 -- the first bytes of units around one, up to a byte in it
-take-within : {P : Type 0} (content : P → List Marked) (before : List P) (unit : P) (after : List P) (offset : ℕ) → offset ≤ length (content unit) → take (length (joined_content content before) + offset) (joined_content content (before ++ unit ∷ after)) ≡ joined_content content before ++ take offset (content unit)
+pub take-within : {P : Type 0} (content : P → List Marked) (before : List P) (unit : P) (after : List P) (offset : ℕ) → offset ≤ length (content unit) → take (length (joined_content content before) + offset) (joined_content content (before ++ unit ∷ after)) ≡ joined_content content before ++ take offset (content unit)
 take-within content before unit after offset most =
     ap (λ (bytes : List Marked). take (length (joined_content content before) + offset) bytes) (flat_map-append content before (unit ∷ after))
     ∙ take-append-add (joined_content content before) (content unit ++ joined_content content after) offset
     ∙ ap (λ (bytes : List Marked). joined_content content before ++ bytes) (take-append-le offset (content unit) (joined_content content after) most)
 
 -- the other bytes
-drop-within : {P : Type 0} (content : P → List Marked) (before : List P) (unit : P) (after : List P) (offset : ℕ) → offset ≤ length (content unit) → drop (length (joined_content content before) + offset) (joined_content content (before ++ unit ∷ after)) ≡ drop offset (content unit) ++ joined_content content after
+pub drop-within : {P : Type 0} (content : P → List Marked) (before : List P) (unit : P) (after : List P) (offset : ℕ) → offset ≤ length (content unit) → drop (length (joined_content content before) + offset) (joined_content content (before ++ unit ∷ after)) ≡ drop offset (content unit) ++ joined_content content after
 drop-within content before unit after offset most =
     ap (λ (bytes : List Marked). drop (length (joined_content content before) + offset) bytes) (flat_map-append content before (unit ∷ after))
     ∙ drop-append-add (joined_content content before) (content unit ++ joined_content content after) offset

@@ -2,6 +2,8 @@
 #![tactic(auto)]
 
 #[cfg(test)]
+mod chunk_map;
+#[cfg(test)]
 mod index;
 #[cfg(test)]
 mod names;

@@ -1,0 +1,5 @@
+-- Words of the clauses of the crate's own functions.
+pub mod Counts
+pub mod FreshBytes
+pub mod Trees
+pub mod Seams

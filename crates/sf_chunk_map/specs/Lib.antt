@@ -1,0 +1,4 @@
+pub mod Contents
+pub mod Pieces
+pub mod Maps
+pub mod Inside

@@ -1,0 +1,15 @@
+//! The value of a large object as a balanced tree of pieces.
+#![tactic(auto)]
+
+mod counting;
+mod counts;
+mod cuts;
+mod map;
+mod parts;
+mod piece_unit;
+mod seams;
+mod slices;
+mod splices;
+
+pub use map::{Map, MapList};
+pub use parts::{Chunk, ChunkList, FreshPart, Piece, PieceList, StoredPart, ZeroPart};
