@@ -38,11 +38,14 @@ fn spliced(alloc: Global) -> Mem<(Map, Map)> {
 fn splices_and_reads(rt: HostRuntime) -> Result<(), Fail> {
     let alloc = rt.alloc();
     let (map, removed) = spliced(alloc)?;
-    assert_eq!(rt; bytes_of(alloc, &map)?.as_slice(), b"xbcdy!");
+    assert_eq!(rt; bytes_of(alloc, &map)?.as_slice(), b"xbcdy!".as_slice());
     assert_eq!(rt; (map.len(), map.fresh()), (5, 2));
-    assert_eq!(rt; bytes_of(alloc, &removed)?.as_slice(), b"\x00\x00!");
-    assert_eq!(rt; map.births()?.as_slice(), &[7]);
-    assert_eq!(rt; removed.births()?.as_slice(), &[]);
+    assert_eq!(rt;
+        bytes_of(alloc, &removed)?.as_slice(),
+        b"\x00\x00!".as_slice()
+    );
+    assert_eq!(rt; map.births()?.as_slice(), [7].as_slice());
+    assert_eq!(rt; removed.births()?.as_slice(), [].as_slice());
     Ok(())
 }
 
@@ -52,9 +55,12 @@ fn slices_and_copies(rt: HostRuntime) -> Result<(), Fail> {
     let (map, _) = spliced(alloc)?;
     let mut copy = map.copy()?.with_choice(Choice::Keep);
     copy.slice_in(2, 3)?;
-    assert_eq!(rt; bytes_of(alloc, &copy)?.as_slice(), b"cdy!");
+    assert_eq!(rt; bytes_of(alloc, &copy)?.as_slice(), b"cdy!".as_slice());
     assert_eq!(rt; copy.choice(), Choice::Keep);
-    assert_eq!(rt; bytes_of(alloc, &map.slice(0, 2)?)?.as_slice(), b"xb!");
+    assert_eq!(rt;
+        bytes_of(alloc, &map.slice(0, 2)?)?.as_slice(),
+        b"xb!".as_slice()
+    );
     Ok(())
 }
 
@@ -69,6 +75,6 @@ fn small_appends_join(rt: HostRuntime) -> Result<(), Fail> {
     assert_eq!(rt; (map.len(), map.fresh()), (2000, 2000));
     let mut last = [0; 4];
     assert_eq!(rt; map.read_into(1997, &mut last), 3);
-    assert_eq!(rt; last.as_slice(), b"bab\x00");
+    assert_eq!(rt; last.as_slice(), b"bab\x00".as_slice());
     Ok(())
 }
