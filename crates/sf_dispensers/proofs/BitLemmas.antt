@@ -1,12 +1,13 @@
 -- The set bits of words, and the blocks that a mask names.
-use Rattle.std.proofs.Common.{◌≡◌, ◌==◌, ◌&&◌, ℕ, zero, suc, ◌+◌, ◌*◌, ◌/◌, ◌%◌, ◌^◌, ◌<◌, ◌≤◌, Bool, true, false, cond, true≢false, List, bit_and, bit_or, refl, sym, ap, ◌∙◌, arith, eq-eqb, filter}
+use Rattle.std.proofs.Common.{◌≡◌, ◌==◌, ◌&&◌, ℕ, zero, suc, ◌+◌, ◌-◌, ◌*◌, ◌/◌, ◌%◌, ◌^◌, ◌<◌, ◌≤◌, min, Bool, true, false, cond, true≢false, List, bit_and, bit_or, refl, sym, ap, ◌∙◌, subst, arith, eq-eqb, filter}
 use Rattle.std.specs.List.{range_with_len}
-use Rattle.std.specs.Int.{bit_at, bit_not}
+use Rattle.std.specs.Int.{bit_at, bit_not, leading_zeros}
 use mir.Syntax.{w64}
 use Rattle.std.specs.Int.RustNames.{count_ones}
 use lib.Count.{ones_cat, ones-ones}
-use Rattle.std.proofs.lemmas.Nat.{and_le_l, mod-pow-add, mod_below, pow_pos, pow-add, or_shifted, or_comm, one_shl}
-use Rattle.std.proofs.lemmas.Nat.Bits.{bit_at-lt, bit_at_and}
+use Rattle.std.proofs.Math.Nat.{mod-eq_of_lt}
+use Rattle.std.proofs.lemmas.Nat.{and_le_l, leading_length, mod-pow-add, mod_below, pow_pos, or_shifted, or_comm, one_shl}
+use Rattle.std.proofs.lemmas.Nat.Bits.{bit_at-lt, bit_at_and, bit_at_above}
 use mathlib.Core.Logic.{dite}
 use native.Mathlib.Decide.{ℕ_discrete, dec_le}
 use Rattle.sf_types.proofs.RunLemmas.{range-split}
@@ -37,8 +38,8 @@ ones_more m k =
 pub ones_start : (m : ℕ) → count_ones (m % 2 ^ 0) ≡ 0
 ones_start m = let none : m % 2 ^ 0 ≡ 0 = omega arith in ap count_ones none ∙ ones_none
 
-pub ones_whole : (m : ℕ) → m < 2 ^ 64 → count_ones (m % 2 ^ 64) ≡ count_ones m
-ones_whole m fits = let same : m % 2 ^ 64 ≡ m = omega arith in ap count_ones same
+pub ones_whole : (m k : ℕ) → m < 2 ^ k → count_ones (m % 2 ^ k) ≡ count_ones m
+ones_whole m k fits = ap count_ones (mod-eq_of_lt fits)
 
 -- a word with fewer bits has fewer set bits
 ones_fewer_below : (a b k : ℕ) → ((i : ℕ) → bit_at a i ≤ bit_at b i) → count_ones (a % 2 ^ k) ≤ count_ones (b % 2 ^ k)
@@ -54,18 +55,28 @@ ones_fewer_below a b (suc k) fewer =
 pub ones_and : (a b : ℕ) → a < 2 ^ 64 → bit_and a b < 2 ^ 64 → count_ones (bit_and a b) ≤ count_ones a
 ones_and a b fits and_fits =
     let fewer = ones_fewer_below (bit_and a b) a 64 (λ i. let e = bit_at_and a b i in omega arith) in
-    omega (arith, fewer, ones_whole a fits, ones_whole (bit_and a b) and_fits)
+    omega (arith, fewer, ones_whole a 64 fits, ones_whole (bit_and a b) 64 and_fits)
 
--- one bit more above all others
-pub ones_set : (mask bit : ℕ) → bit < 64 → mask < 2 ^ bit → (bit_or mask (1 * 2 ^ bit % 2 ^ 64) < 2 ^ (bit + 1)) × (count_ones (bit_or mask (1 * 2 ^ bit % 2 ^ 64)) ≡ count_ones mask + 1)
-ones_set mask bit lt below =
+-- a word's bits up to a place, with the bit of that place where it is set
+low_parts : (word bit : ℕ) → word % 2 ^ (bit + 1) ≡ bit_at word bit * 2 ^ bit + word % 2 ^ bit
+low_parts word bit = let sum : bit + 1 ≡ 1 + bit = omega arith in ap (λ (k : ℕ). word % 2 ^ k) sum ∙ mod-pow-add word 1 bit
+
+pub low_set : (word bit : ℕ) → bit < 64 → bit_at word bit ≡ 1 → bit_or (word % 2 ^ bit) (1 * 2 ^ bit % 2 ^ 64) ≡ word % 2 ^ (bit + 1)
+low_set word bit lt set =
+    let low : ℕ = word % 2 ^ bit in
     let one : 1 * 2 ^ bit % 2 ^ 64 ≡ 2 ^ bit = one_shl bit 64 lt in
-    let is : bit_or mask (1 * 2 ^ bit % 2 ^ 64) ≡ 1 * 2 ^ bit + mask = ap (bit_or mask) one ∙ (or_comm mask (2 ^ bit) ∙ (ap (λ (n : ℕ). bit_or n mask) (omega arith) ∙ or_shifted 1 bit mask below)) in
-    let twice : 2 ^ (bit + 1) ≡ 2 ^ bit * 2 ^ 1 = pow-add 2 bit 1 in
-    let cat = ones_cat bit 1 mask below in (
-      omega arith,
-      ap count_ones is ∙ (cat ∙ (let o = ones_one in omega arith)),
-    )
+    let is : bit_or low (1 * 2 ^ bit % 2 ^ 64) ≡ 1 * 2 ^ bit + low = ap (bit_or low) one ∙ (or_comm low (2 ^ bit) ∙ (ap (λ (n : ℕ). bit_or n low) (omega arith) ∙ or_shifted 1 bit low (mod_below word (2 ^ bit) (pow_pos bit)))) in
+    is ∙ (ap (λ (n : ℕ). n * 2 ^ bit + low) (sym set) ∙ sym (low_parts word bit))
+
+pub low_same : (word bit : ℕ) → bit_at word bit ≡ 0 → word % 2 ^ bit ≡ word % 2 ^ (bit + 1)
+low_same word bit clear = let none : 0 * 2 ^ bit + word % 2 ^ bit ≡ word % 2 ^ bit = omega arith in sym none ∙ (ap (λ (n : ℕ). n * 2 ^ bit + word % 2 ^ bit) (sym clear) ∙ sym (low_parts word bit))
+
+-- the least of two numbers
+pub least_first : (m n : ℕ) → m ≤ n → m ≡ min m n
+least_first m n le = omega arith
+
+pub least_second : (m n : ℕ) → n ≤ m → n ≡ min m n
+least_second m n le = omega arith
 
 -- the blocks of a word's first bits that a mask names
 abbrev pub named_below : ℕ → ℕ → ℕ → List ℕ
@@ -122,10 +133,32 @@ named_same word mask k b lt clear =
     ∙ (passed_none (is_named word mask b) x y (λ some. bit_test_clear (bit_at mask k) (is_named word mask b) clear (ap (is_named word mask) (only_block (WORD_BLOCKS * word + k) b some) ∙ named_bit word mask k lt))
     ∙ sym (times-filter (is_named word mask) b (range_with_len (WORD_BLOCKS * word) k)))
 
--- all bits of a word name the blocks of the mask
-pub named_whole : (word mask k : ℕ) → k ≡ WORD_BLOCKS → named_below word mask k ≡ blocks_of_mask word mask
+-- bits that a mask doesn't have name no block
+named_rest : (word mask k j b : ℕ) → mask < 2 ^ k → k + j ≤ WORD_BLOCKS → times b (named_below word mask (k + j)) ≡ times b (named_below word mask k)
+named_rest word mask k zero b below within = let same : k + 0 ≡ k = omega arith in ap (λ (n : ℕ). times b (named_below word mask n)) same
+named_rest word mask k (suc j) b below within =
+    let next : k + suc j ≡ k + j + 1 = omega arith in
+    ap (λ (n : ℕ). times b (named_below word mask n)) next
+    ∙ (named_same word mask (k + j) b (omega arith) (bit_at_above mask k (k + j) below (omega arith))
+    ∙ named_rest word mask k j b below (omega arith))
+
+named_all : (word mask : ℕ) → named_below word mask WORD_BLOCKS ≡ blocks_of_mask word mask
 unfolding blocks_of_mask
-named_whole word mask k end = ap (named_below word mask) end
+named_all word mask = refl
+
+-- the bits up to the highest set one name the blocks of the mask
+pub named_whole : (word mask k b : ℕ) → mask < 2 ^ k → k ≤ WORD_BLOCKS → times b (named_below word mask k) ≡ times b (blocks_of_mask word mask)
+named_whole word mask k b below within =
+    let sum : k + (WORD_BLOCKS - k) ≡ WORD_BLOCKS = omega arith in
+    sym (named_rest word mask k (WORD_BLOCKS - k) b below (omega arith))
+    ∙ (ap (λ (n : ℕ). times b (named_below word mask n)) sum ∙ ap (times b) (named_all word mask))
+
+-- the highest set bit stands before the leading zeros
+pub below_leading : (mask k : ℕ) → mask < 2 ^ 64 → k ≡ 64 - leading_zeros w64 mask → (mask < 2 ^ k) × (k ≤ 64)
+below_leading mask k fits is =
+    let long = leading_length 64 mask fits in
+    let same : long.0 ≡ k = let sum = long.1 in omega arith in
+    (subst (λ (n : ℕ). mask < 2 ^ n) same long.2, omega arith)
 
 -- a claim answers no more bits than it asks for
 pub ones_claimed : (mask word claimed : ℕ) → mask < 2 ^ 64 → claimed ≡ clear_bits mask word → count_ones claimed ≤ count_ones mask

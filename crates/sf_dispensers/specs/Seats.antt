@@ -24,4 +24,4 @@ pub record IsSeatOf (space : TableId) (options : Options) (seat : BlockSeat) (ru
 -- Dispensers: the words whose blocks they give out, and the number of their lists.
 pub record Supply : Type 0 where
   pub words : Space
-  pub lists : ℕ
+  pub list_count : ℕ

@@ -1,15 +1,15 @@
 //! A list of free blocks.
-ghost use Rattle.std.specs.Prelude.{◌≡◌, ◌+◌, ◌≤◌, [], ◌∷◌, true, IfOk, IfSome, MatchBool, vec_capacity, vec_len, length};
+ghost use Rattle.std.specs.Prelude.{◌≡◌, ◌+◌, ◌≤◌, ◌⊎◌, [], ◌∷◌, true, IfOk, IfSome, IfNone, OnOk, MatchBool, vec_capacity, vec_len, length};
 ghost use Rattle.sf_dispensers.specs.Seats.{IsSeatOf, IsSpaceOf};
 ghost use Rattle.sf_dispensers.specs.Inside.{CutsRun, EndsWithin, GainsRun, GainsRuns};
 
 use crate::gathering::Gathering;
-use crate::joined::join_run;
 use crate::named::Named;
+use crate::neighbours::join_run;
 use crate::reservation::Reservation;
 use sf_reclaimer::release_run;
 use sf_space_words::{Seat, Words};
-use sf_types::{Mem, Run, Runs};
+use sf_types::{Mem, OutOfMemory, Run, Runs};
 use std::alloc::Global;
 use std::marker::{Model, PhantomData};
 
@@ -49,6 +49,7 @@ fn cut_front(runs: &mut Vec<Run>, most: u64) -> Run
     requires end { EndsWithin runs.old.items }
     ensures cut { CutsRun runs.old.items runs.new.items result }
     ensures most { result.blocks ≤ most }
+    ensures whole { (result.blocks ≡ most) ⊎ (vec_len runs.new + 1 ≡ vec_len runs.old) }
 {
     let front = runs[0];
     if u64::from(front.blocks) <= most {
@@ -87,6 +88,7 @@ impl<N: Named> Dispenser<N> {
     pub fn new(alloc: Global, words: &Words, seat: &mut Seat, room: usize) -> Mem<Dispenser<N>>
         requires words { IsSpaceOf N.space N.options words.now }
         requires seat { (seat.old.id ≡ N.space) × (seat.old.capacity ≡ N.options.capacity) }
+        ensures list { IfOk result (λ list. (list.held ≡ []) × (list.spare ≡ room)) }
         ensures seat { (seat.new.id ≡ seat.old.id) × (seat.new.capacity ≡ seat.old.capacity) }
     {
         let runs = Vec::with_capacity(alloc, room)?;
@@ -98,21 +100,31 @@ impl<N: Named> Dispenser<N> {
         })
     }
 
-    // A gathering of so many blocks that has none yet.
-    pub fn begin(&mut self, alloc: Global, words: &Words, wanted: u64) -> Mem<Gathering<N>>
+    // A gathering of so many blocks, with what this list has. After want of memory the list has its blocks again, as far as there
+    // is room.
+    pub fn begin(&mut self, alloc: Global, words: &Words, wanted_blocks: u64) -> Mem<Gathering<N>>
         requires { IsSpaceOf N.space N.options words.now }
-        ensures { IfOk result (λ gathering. (gathering.wanted ≡ wanted)) }
+        ensures { IfOk result (λ gathering. (gathering.wanted_blocks ≡ wanted_blocks)) }
     {
         let mut runs = Runs::new(alloc);
         runs.make_room(1)?;
         let seat = words.part(&mut self.seat, &runs);
-        Ok(Gathering::new(seat, runs, wanted))
+        let mut gathering = Gathering::new(seat, runs, wanted_blocks);
+        match self.give(words, &mut gathering) {
+            Ok(()) => Ok(gathering),
+            Err(OutOfMemory) => {
+                self.take_back(words, gathering.into_reservation());
+                Err(OutOfMemory)
+            }
+        }
     }
 
     // Cuts the list's first run off, or its first blocks where it has more than so many. None where the list is empty.
     fn cut(&mut self, words: &Words, most: u64) -> Option<(Seat, Run)>
         requires { IsSpaceOf N.space N.options words.now }
-        ensures { IfSome result (λ cut. IsSeatOf N.space N.options cut.0 (cut.1 ∷ []) × (cut.1.blocks ≤ most)) }
+        ensures cut { IfSome result (λ cut. IsSeatOf N.space N.options cut.0 (cut.1 ∷ []) × (cut.1.blocks ≤ most)) }
+        ensures whole { IfSome result (λ cut. (cut.1.blocks ≡ most) ⊎ (length self.new.held + 1 ≡ length self.old.held)) }
+        ensures none { IfNone result (self.new.held ≡ []) }
     {
         if self.runs.is_empty() {
             return None;
@@ -124,19 +136,20 @@ impl<N: Named> Dispenser<N> {
         Some((part, run))
     }
 
-    // Gives blocks to a gathering, as many as are missing or the list has, the first runs first.
+    // Gives blocks to a gathering, the first runs first, until nothing is missing or the list is empty.
     pub fn give(&mut self, words: &Words, gathering: &mut Gathering<N>) -> Mem<()>
         requires { IsSpaceOf N.space N.options words.now }
-        ensures { gathering.new.wanted ≡ gathering.old.wanted }
+        ensures ok { OnOk result ((gathering.new.block_count ≡ gathering.new.wanted_blocks) ⊎ (self.new.held ≡ [])) }
+        ensures wanted { gathering.new.wanted_blocks ≡ gathering.old.wanted_blocks }
     {
         for _ in 0..self.runs.len() {
-            let missing = gathering.missing();
+            let missing = gathering.missing_blocks();
             if missing == 0 {
-                break;
+                return Ok(());
             }
             gathering.make_room(1)?;
             let Some((part, run)) = self.cut(words, missing) else {
-                break;
+                return Ok(());
             };
             gathering.gain(words, part, run);
         }

@@ -51,7 +51,7 @@ impl<N: Named> Model for Dispensers<N> {
 
     ghost Value = { Supply };
 
-    ghost view = { λ d. record { words = d.words; lists = vec_len d.lists } };
+    ghost view = { λ d. record { words = d.words; list_count = vec_len d.lists } };
 
     ghost invariant = { λ d. IsSpaceOf N.space N.options d.words };
 }
@@ -62,7 +62,7 @@ impl<N: Named> Dispensers<N> {
         requires words { IsSpaceOf N.space N.options words }
         requires seat { IsOf words seat }
         ensures words { IfOk result (λ made. made.words ≡ words) }
-        ensures lists { IfOk result (λ made. made.lists ≡ count) }
+        ensures lists { IfOk result (λ made. made.list_count ≡ count) }
     {
         let mut first_seat = FirstSeat { seat };
         let lists = Dispensers::new_lists(alloc, &words, &mut first_seat.seat, count)?;
@@ -95,9 +95,10 @@ impl<N: Named> Dispensers<N> {
         Ok(lists)
     }
 
-    /// The words that these dispensers were made with.
+    /// The words that these dispensers were made with, which are the store's.
     pub fn words(&self) -> &Words
-        ensures { result.now ≡ self.now.words }
+        ensures words { result.now ≡ self.now.words }
+        ensures store { IsSpaceOf N.space N.options result.now }
     {
         &self.words
     }
@@ -112,19 +113,18 @@ impl<N: Named> Dispensers<N> {
         n: u64,
         ripe: &mut F,
     ) -> Mem<Reservation<N>>
-        requires { home < self.now.lists }
+        requires { home < self.now.list_count }
         ensures blocks { IfOk result (λ reservation. length (blocks_in reservation) ≡ n) }
         ensures once { IfOk result (λ reservation. IsOnce (blocks_in reservation)) }
         ensures below { IfOk result (λ reservation. AreBelow N.options.capacity (blocks_in reservation)) }
         ensures ripe { F.follows ripe.old ripe.new }
     {
-        let begun = self.lists[home as usize]
+        let mut gathering = self.lists[home as usize]
             .lock(rt)
-            .begin(self.alloc, &self.words, n);
-        let mut gathering = begun?;
-        let filled = self.fill(rt, home, &mut gathering, ripe);
+            .begin(self.alloc, &self.words, n)?;
+        let outcome = self.fill(rt, home, &mut gathering, ripe);
         let reservation = gathering.into_reservation();
-        match filled {
+        match outcome {
             Ok(()) => Ok(reservation),
             Err(OutOfMemory) => {
                 self.hand_back(rt, home, reservation);
@@ -133,7 +133,7 @@ impl<N: Named> Dispensers<N> {
         }
     }
 
-    // Gathers until nothing is missing.
+    // Gathers until nothing is missing, once the home list gave what it has.
     fn fill<R: Wait, F: Ripe>(
         &self,
         rt: &R,
@@ -141,34 +141,33 @@ impl<N: Named> Dispensers<N> {
         gathering: &mut Gathering<N>,
         ripe: &mut F,
     ) -> Mem<()>
-        requires { home < self.now.lists }
-        ensures full { OnOk result (gathering.new.count ≡ gathering.old.wanted) }
+        requires { home < self.now.list_count }
+        ensures full { OnOk result (gathering.new.block_count ≡ gathering.old.wanted_blocks) }
         ensures ripe { F.follows ripe.old ripe.new }
     {
         for _ in rt.forever() {
-            self.gather(rt, home, gathering)?;
-            if gathering.missing() == 0 {
+            self.gather(rt, gathering)?;
+            if gathering.missing_blocks() == 0 {
                 return Ok(());
             }
             ripe.fetch(rt)?;
             yield_now();
+            self.lists[home as usize]
+                .lock(rt)
+                .give(&self.words, gathering)?;
         }
         unreachable!()
     }
 
-    // Gathers what is missing, or what there is: from the home list, from the words, from the other lists.
-    fn gather<R: Wait>(&self, rt: &R, home: u32, gathering: &mut Gathering<N>) -> Mem<()>
-        requires { home < self.now.lists }
-        ensures { gathering.new.wanted ≡ gathering.old.wanted }
+    // Gathers what is missing, or what there is: from the words, and from all lists.
+    fn gather<R: Wait>(&self, rt: &R, gathering: &mut Gathering<N>) -> Mem<()>
+        ensures { gathering.new.wanted_blocks ≡ gathering.old.wanted_blocks }
     {
-        self.lists[home as usize]
-            .lock(rt)
-            .give(&self.words, gathering)?;
-        if gathering.missing() > 0 {
+        if gathering.missing_blocks() > 0 {
             self.scan(gathering)?;
         }
         for list in &self.lists {
-            if gathering.missing() == 0 {
+            if gathering.missing_blocks() == 0 {
                 break;
             }
             list.lock(rt).give(&self.words, gathering)?;
@@ -178,17 +177,20 @@ impl<N: Named> Dispensers<N> {
 
     // Claims what is missing from the words, or what is clear. It begins with the word at which the last scan ended.
     fn scan(&self, gathering: &mut Gathering<N>) -> Mem<()>
-        ensures { gathering.new.wanted ≡ gathering.old.wanted }
+        ensures { gathering.new.wanted_blocks ≡ gathering.old.wanted_blocks }
     {
         let count = self.words.count();
         let from = self.next_word.load(Ordering::SeqCst) % count;
         let mut word = from;
         for turn in 0..count {
-            if gathering.missing() == 0 {
+            if gathering.missing_blocks() == 0 {
                 break;
             }
             word = (from + turn) % count;
-            gathering.claim(&self.words, word)?;
+            let mask = gathering.clear_bits(&self.words, word);
+            if mask != 0 {
+                gathering.claim(&self.words, word, mask)?;
+            }
         }
         self.next_word.store(word, Ordering::SeqCst);
         Ok(())
@@ -196,7 +198,7 @@ impl<N: Named> Dispensers<N> {
 
     /// Puts a reservation's blocks into the home list, as far as that has room, and clears the others. It takes no memory.
     pub fn hand_back<R: Wait>(&self, rt: &R, home: u32, reservation: Reservation<N>)
-        requires { home < self.now.lists }
+        requires { home < self.now.list_count }
     {
         self.lists[home as usize]
             .lock(rt)

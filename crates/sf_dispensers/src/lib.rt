@@ -1,12 +1,12 @@
 //! Lists of free blocks, each behind a lock of its own, from which threads collect blocks.
 #![tactic(auto)]
 
+mod bits;
 mod dispenser;
 mod dispensers;
 mod gathering;
-mod joined;
-mod lowest;
 mod named;
+mod neighbours;
 mod reservation;
 mod ripe;
 

@@ -9,7 +9,7 @@ use Rattle.std.proofs.lemmas.Nat.Bits.{bit_at_mask_inside, bit_at_mask_below, bi
 use Rattle.sf_space_words.specs.declared.limits.TheConstants.{WORD_BLOCKS}
 use Rattle.sf_space_words.specs.Blocks.{times, is_named, blocks_of_mask, without_mask, without_blocks}
 use Rattle.sf_space_words.proofs.TimesLemmas.{times-before, times-behind, times-within, times-mask_here, times-mask_else}
-use Rattle.sf_reclaimer.specs.Masks.{mask_between}
+use Rattle.sf_reclaimer.specs.Inside.{mask_between}
 use Rattle.sf_reclaimer.proofs.LeftLemmas.{filter_same}
 
 -- the mask as the code computes it

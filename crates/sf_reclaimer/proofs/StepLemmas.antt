@@ -9,7 +9,7 @@ use Rattle.sf_types.proofs.RunLemmas.{no_run, next-blocks, range-split}
 use Rattle.sf_space_words.specs.declared.limits.TheConstants.{WORD_BLOCKS}
 use Rattle.sf_space_words.specs.Blocks.{times, blocks_of_mask, without_mask, without_blocks, AreBelow, Covers, IsOnce}
 use Rattle.sf_space_words.proofs.TimesLemmas.{times-append, times-within}
-use Rattle.sf_reclaimer.specs.Masks.{mask_between}
+use Rattle.sf_reclaimer.specs.Inside.{mask_between}
 use Rattle.sf_reclaimer.proofs.LeftLemmas.{covers_more, without-append}
 use Rattle.sf_reclaimer.proofs.MaskLemmas.{mask_times, mask_left}
 

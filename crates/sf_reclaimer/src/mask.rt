@@ -1,7 +1,7 @@
 //! Masks for words.
 ghost use Rattle.std.specs.Prelude.{◌≡◌, ◌+◌, ◌≤◌};
 ghost use Rattle.sf_space_words.specs.declared.limits.TheConstants.{WORD_BLOCKS as WORD_SIZE};
-ghost use Rattle.sf_reclaimer.specs.Masks.{mask_between};
+ghost use Rattle.sf_reclaimer.specs.Inside.{mask_between};
 
 use sf_space_words::WORD_BLOCKS;
 

@@ -1,4 +1,4 @@
--- Words at the start meet the rule.
+-- Words at the start: all blocks clear, and the bits past the last block set.
 use Rattle.std.proofs.Common.{◌≡◌, ◌≢◌, ℕ, zero, suc, ◌-◌, ◌*◌, ◌/◌, ◌%◌, ◌^◌, ◌<◌, List, [], ◌∷◌, length, get_or, set, replicate, refl, sym, ap, ◌∙◌, arith, length-set}
 use Rattle.std.specs.Int.{bit_at}
 use mathlib.Core.Option.{some, some-injective, some-ne-none}
@@ -52,16 +52,3 @@ opening_cut n ne =
           (λ else. bit_of_else words last top b else ∙ bit_zero (word_count n) b);
       filled = λ b h l. let e : b / WORD_BLOCKS ≡ last = let k = length-set words last top in omega arith in bit b e ∙ bit_at_mask_inside (n % WORD_BLOCKS) 64 (b % WORD_BLOCKS) (omega arith) (omega arith);
     }
-
-pub opens : (n : ℕ) (words : List ℕ) → AreOpening n words → SpaceRule n (opening words [] (view_without_blocks n))
-opens n words clear = record {
-  count = clear.count;
-  blocks = λ b h. sym (clear.clear b h);
-  none_past = λ b h. refl;
-  set_past = clear.filled;
-  capacities = λ id v e some_left. alone id v e;
-}
-  where
-    alone : (id : ℕ) (v : View) → get_elem? (view_without_blocks n ∷ []) id ≡ some v → v.capacity ≡ n
-    alone zero v e = ap (λ (z : View). z.capacity) (sym (some-injective _ _ e))
-    alone (suc id) v e = absurd (some-ne-none v (sym e))

@@ -17,8 +17,8 @@ use Rattle.sf_space_words.proofs.TimesLemmas.{times-mask_here, times-without_her
 use Rattle.sf_space_words.proofs.ViewLemmas.{total_set, total_le, bit_of_set, bit_of_else}
 use Rattle.sf_space_words.proofs.RuleLemmas.{U, capacities_set, once, sound, view_changed}
 
-pub not_not : (mask : ℕ) → mask < 2 ^ 64 → bit_not w64 (bit_not w64 mask) ≡ mask
-not_not mask h = omega arith
+pub not_twice : (mask : ℕ) → mask < 2 ^ 64 → bit_not w64 (bit_not w64 mask) ≡ mask
+not_twice mask h = omega arith
 
 release_here : (n : ℕ) (s : State U View) (id word mask b : ℕ) (v : View) → SpaceRule n s → get_elem? s.views id ≡ some v → word < length s.words → get_or s.words word 0 < 2 ^ 64 → mask < 2 ^ 64 → Covers v.blocks (blocks_of_mask word mask) → b / WORD_BLOCKS ≡ word
     → (bit_of (set s.words word (bit_and (get_or s.words word 0) (bit_not w64 mask))) b ≡ min (bit_of s.words b) (1 - bit_at mask (b % WORD_BLOCKS)))
@@ -34,7 +34,7 @@ release_here n s id word mask b v kept at lt small fits covers e =
     let has = covers b in
     let asked = times-mask_here word mask b e in
     let less = times-without_here word (bit_not w64 (bit_not w64 mask)) b v.blocks e (omega arith) in
-    let same : bit_at (bit_not w64 (bit_not w64 mask)) (b % WORD_BLOCKS) ≡ bit_at mask (b % WORD_BLOCKS) = ap (λ (k : ℕ). bit_at k (b % WORD_BLOCKS)) (not_not mask fits) in (
+    let same : bit_at (bit_not w64 (bit_not w64 mask)) (b % WORD_BLOCKS) ≡ bit_at mask (b % WORD_BLOCKS) = ap (λ (k : ℕ). bit_at k (b % WORD_BLOCKS)) (not_twice mask fits) in (
       bit_of_set s.words word (bit_and found (bit_not w64 mask)) b lt e ∙ (bit_at_and found (bit_not w64 mask) (b % WORD_BLOCKS) ∙ ap₂' (sym is) (bit_at_not w64 mask (b % WORD_BLOCKS) fits (omega arith))),
       omega arith,
       (let l = bit_at-lt found (b % WORD_BLOCKS) in omega arith),

@@ -1,6 +1,5 @@
 -- Blocks that two masks name.
 use Rattle.std.proofs.Common.{ℕ, ◌/◌, ◌%◌, List, ◌++◌, bit_and, arith}
-use Rattle.std.specs.Int.{bit_at}
 use mathlib.Core.Logic.{dite}
 use native.Mathlib.Decide.{ℕ_discrete}
 use Rattle.std.proofs.lemmas.Nat.Bits.{bit_at_and}

@@ -3,9 +3,10 @@ ghost use Rattle.std.specs.Prelude.{◌≡◌, ◌<◌, ◌+◌};
 ghost use Rattle.sf_space_words.specs.Seats.{IsOf};
 ghost use Rattle.sf_dispensers.specs.Seats.{IsSpaceOf};
 
-use sf_dispensers::{Dispensers, Named, NoRipe};
+use sf_dispensers::{Dispensers, Named, NoRipe, Reservation, Ripe};
+use sf_reclaimer::release;
 use sf_space_words::{Seat, Words};
-use sf_types::{Mem, Run, Runs};
+use sf_types::{Mem, OutOfMemory, Run, Runs};
 use std::alloc::Global;
 use std::marker::Brand;
 use std::sync::Wait;
@@ -67,6 +68,137 @@ fn dispensers_on_one_thread(rt: HostRuntime) -> Result<(), Fail> {
     Ok(())
 }
 
+// A reservation is taken apart, and its blocks are cleared.
+fn clear<N: Named>(dispensers: &Dispensers<N>, reservation: Reservation<N>) {
+    let (mut seat, runs) = reservation.into_parts();
+    release(dispensers.words(), &mut seat, &runs);
+    seat.abandon();
+}
+
+// All blocks are collected and cleared, so often. It answers how many runs they were each time.
+fn collect_and_clear<N: Named, R: Wait>(
+    rt: &R,
+    alloc: Global,
+    words: Words,
+    seat: Seat,
+    blocks: u64,
+    times: u32,
+) -> Mem<Vec<usize>>
+    requires words { IsSpaceOf N.space N.options words }
+    requires seat { IsOf words seat }
+{
+    let dispensers = Dispensers::<N>::new(alloc, words, seat, 1)?;
+    let mut counts = Vec::new(alloc);
+    for _ in 0..times {
+        let all = dispensers.collect(rt, 0, blocks, &mut NoRipe)?;
+        let count = all.runs().len();
+        clear(&dispensers, all);
+        counts.push(count)?;
+    }
+    Ok(counts)
+}
+
+fn clear_all<R: Wait>(rt: &R, alloc: Global) -> Mem<Vec<usize>> {
+    let (words, seat) = Words::new(alloc, 130)?;
+    collect_and_clear::<Brand, R>(rt, alloc, words, seat, 130, 3)
+}
+
+// Blocks that were cleared are collected again. The first time they are one run over three words. Then a scan begins with the
+// last word.
+#[test]
+fn cleared_blocks_are_collected_again(rt: HostRuntime) -> Result<(), Fail> {
+    let counts = clear_all(&rt, rt.alloc())?;
+    assert_eq!(rt; counts.as_slice(), &[1, 2, 2][..]);
+    Ok(())
+}
+
+// What clears a reservation once, and refuses from then on.
+struct Parked<'a, N: Named> {
+    dispensers: &'a Dispensers<N>,
+    reservation: Option<Reservation<N>>,
+}
+
+impl<'a, N: Named> Ripe for Parked<'a, N> {
+    ghost use Rattle.std.specs.Prelude.{⊤};
+
+    ghost follows = { λ x y. ⊤ };
+
+    ghost itself = { λ x. tt };
+
+    ghost through = { λ x y z a b. tt };
+
+    fn fetch<R: Wait>(&mut self, rt: &R) -> Mem<()> {
+        let _ = rt;
+        match self.reservation.take() {
+            Some(reservation) => {
+                clear(self.dispensers, reservation);
+                Ok(())
+            }
+            None => Err(OutOfMemory),
+        }
+    }
+}
+
+// Takes what may have been collected back. It answers whether there was something.
+fn take_back<N: Named, R: Wait>(
+    rt: &R,
+    dispensers: &Dispensers<N>,
+    collected: Mem<Reservation<N>>,
+) -> bool
+    requires { 0 < dispensers.now.list_count }
+{
+    match collected {
+        Ok(reservation) => {
+            dispensers.hand_back(rt, 0, reservation);
+            true
+        }
+        Err(OutOfMemory) => false,
+    }
+}
+
+// Of 8 blocks 6 are parked. Whether then 5 can be collected, whether 9, and whether all 8.
+fn collect_parked<N: Named, R: Wait>(
+    rt: &R,
+    alloc: Global,
+    words: Words,
+    seat: Seat,
+) -> Mem<[bool; 3]>
+    requires words { IsSpaceOf N.space N.options words }
+    requires seat { IsOf words seat }
+{
+    let dispensers = Dispensers::<N>::new(alloc, words, seat, 2)?;
+    let reservation = dispensers.collect(rt, 0, 6, &mut NoRipe)?;
+    let mut parked = Parked {
+        dispensers: &dispensers,
+        reservation: Some(reservation),
+    };
+    let five = dispensers.collect(rt, 0, 5, &mut parked);
+    let has_five = take_back(rt, &dispensers, five);
+    let nine = dispensers.collect(rt, 1, 9, &mut parked);
+    let has_nine = take_back(rt, &dispensers, nine);
+    let Parked {
+        dispensers: _,
+        reservation,
+    } = parked;
+    if let Some(reservation) = reservation {
+        clear(&dispensers, reservation);
+    }
+    let all = dispensers.collect(rt, 0, 8, &mut NoRipe);
+    Ok([has_five, has_nine, take_back(rt, &dispensers, all)])
+}
+
+fn parked_of_eight<R: Wait>(rt: &R, alloc: Global) -> Mem<[bool; 3]> {
+    let (words, seat) = Words::new(alloc, 8)?;
+    collect_parked::<Brand, R>(rt, alloc, words, seat)
+}
+
+// A collection that finds too little asks for more, and where it is refused, what it had can be collected again.
+#[test]
+fn parked_blocks_are_asked_for(rt: HostRuntime) -> Result<(), Fail> {
+    assert_eq!(rt; parked_of_eight(&rt, rt.alloc())?, [true, false, true]);
+    Ok(())
+}
+
 // The rounds of each thread.
 const ROUNDS: u64 = 10_000;
 
@@ -80,7 +212,7 @@ fn rounds<N: Named, R: Wait>(
     dispensers: &Dispensers<N>,
     home: u32,
 ) -> Mem<bool>
-    requires { home < dispensers.now.lists }
+    requires { home < dispensers.now.list_count }
 {
     for round in 0..ROUNDS {
         let blocks = round % 64 + 1;
@@ -108,10 +240,10 @@ fn by_two_threads<N: Named + Send + Sync, R: Threads + Wait + Sync>(
     Ok(join(
         rt,
         || -> Mem<bool>
-            requires { dispensers.lists ≡ 2 }
+            requires { dispensers.list_count ≡ 2 }
         { rounds(rt, alloc, &dispensers, 0) },
         || -> Mem<bool>
-            requires { dispensers.lists ≡ 2 }
+            requires { dispensers.list_count ≡ 2 }
         { rounds(rt, alloc, &dispensers, 1) },
     ))
 }

@@ -1,11 +1,10 @@
-use Rattle.std.proofs.Common.{◌≡◌, ◌∙◌, ℕ, ◌+◌, ◌%◌, ◌^◌, ◌++◌, ◌∷◌, [], length, ap, sym, arith}
+use Rattle.std.proofs.Common.{◌≡◌, ◌∙◌, ℕ, ◌+◌, ◌<◌, ◌++◌, ◌∷◌, [], length, ap, sym, arith}
 use Rattle.std.specs.Int.{bit_at}
-use Rattle.std.specs.Int.RustNames.{count_ones}
 use Rattle.std.proofs.lemmas.Nat.Bits.{shr_and_one, bit_at-lt}
 use Rattle.sf_types.specs.Space.BlockRuns.{blocks_in}
 use Rattle.sf_space_words.specs.declared.limits.TheConstants.{WORD_BLOCKS}
 use Rattle.sf_space_words.specs.Blocks.{times}
-use Rattle.sf_dispensers.proofs.BitLemmas.{ones_more, ones_whole, named_more, named_same, named_whole}
+use Rattle.sf_dispensers.proofs.BitLemmas.{ones_more, ones_whole, named_more, named_same, named_whole, below_leading}
 use Rattle.sf_dispensers.proofs.gathering.append_mask.Goals as goal
 use Rattle.sf_dispensers.proofs.gathering.append_mask.Goals.{then-mask-bit-eq1, else-mask-bit-eq1}
 
@@ -13,7 +12,7 @@ pub loop-bit-preserved : goal.loop-bit-preserved
 loop-bit-preserved c =
     let i = c.loop-bit.invariant in
     let bit = c.loop-bit.bit in
-    let lt = c.loop-bit-test.true in
+    let lt : bit < WORD_BLOCKS = let test = c.loop-bit-test.true in omega arith in
     let digit = shr_and_one c.args.mask bit in
     let spare = i.spare in
     let count = i.count in
@@ -54,7 +53,7 @@ returns-clause-blocks c =
     let i = c.loop-bit.invariant in
     let test = c.loop-bit-test.false in
     let most = c.loop-bit.auto.bit-end in
-    let end : c.loop-bit.bit ≡ WORD_BLOCKS = omega arith in record {
-      blocks = λ b. i.blocks b ∙ ap (λ l. times b (blocks_in (c.args.runs.now.held ++ c.args.last.now ∷ [])) + times b l) (named_whole c.args.word c.args.mask c.loop-bit.bit end);
-      count = i.count ∙ ap (λ (n : ℕ). length (blocks_in (c.args.runs.now.held ++ c.args.last.now ∷ [])) + n) (ap (λ (k : ℕ). count_ones (c.args.mask % 2 ^ k)) end ∙ ones_whole c.args.mask c.ranges.mask.fits);
+    let end = below_leading c.args.mask c.loop-bit.bit c.ranges.mask.fits (omega arith) in record {
+      blocks = λ b. i.blocks b ∙ ap (λ (n : ℕ). times b (blocks_in (c.args.runs.now.held ++ c.args.last.now ∷ [])) + n) (named_whole c.args.word c.args.mask c.loop-bit.bit b end.0 end.1);
+      count = i.count ∙ ap (λ (n : ℕ). length (blocks_in (c.args.runs.now.held ++ c.args.last.now ∷ [])) + n) (ones_whole c.args.mask c.loop-bit.bit end.0);
     }

@@ -8,7 +8,7 @@ pub returns-then-last-eq0-clause-blocks : goal.returns-then-last-eq0-clause-bloc
 returns-then-last-eq0-clause-blocks c = gains_empty c.args.runs.now.held c.args.last.now c.args.run c.if-last-eq0.true
 
 pub returns-in-Some-clause-blocks : goal.returns-in-Some-clause-blocks
-returns-in-Some-clause-blocks c = gains_last c.args.runs.now.held c.args.last.now c.args.run c.in-Some.both c.in-Some.ensures
+returns-in-Some-clause-blocks c = gains_last c.args.runs.now.held c.args.last.now c.args.run c.in-Some.both c.in-Some.ensures.both
 
 pub returns-in-None-clause-blocks : goal.returns-in-None-clause-blocks
 returns-in-None-clause-blocks c =

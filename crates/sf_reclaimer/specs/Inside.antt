@@ -1,4 +1,4 @@
--- Masks of neighbouring bits (our own).
+-- Masks of neighbouring bits, which the private `mask_from` makes (our own).
 use Rattle.std.specs.Prelude.{ℕ, ◌-◌, ◌^◌}
 
 -- The mask whose bits are set from one offset up to another, which isn't reached.

@@ -1,5 +1,5 @@
 use Rattle.std.proofs.Common.{◌≡◌}
-use Rattle.sf_dispensers.proofs.joined.join_run.Given as goal
+use Rattle.sf_dispensers.proofs.neighbours.join_run.Given as goal
 
 -- nothing was joined so far
 abbrev pub invariant-loop-at : goal.invariant-loop-at

@@ -1,19 +1,20 @@
 //! Runs that touch each other, as one.
-ghost use Rattle.std.specs.Prelude.{◌≡◌, ◌+◌, IsTrue, IfSome, MatchBool, vec_capacity, vec_len};
-ghost use Rattle.sf_dispensers.specs.Inside.{GainsRun, IsJoined};
+ghost use Rattle.std.specs.Prelude.{◌≡◌, ◌+◌, ◌^◌, ◌<◌, ◌↔◌, IsTrue, IsSome, IfSome, MatchBool, vec_capacity, vec_len};
+ghost use Rattle.sf_dispensers.specs.Inside.{GainsRun, IsJoined, Touches};
 
 use sf_types::Run;
 
 // Whether a block follows a run's last one.
 fn precedes(run: Run, block: u32) -> bool
-    ensures { IsTrue result → run.first + run.blocks ≡ block }
+    ensures { IsTrue result ↔ (run.first + run.blocks ≡ block) }
 {
     run.first.checked_add(run.blocks) == Some(block)
 }
 
 // Two runs as one, where one of them begins behind the other's last block.
-pub fn joined(run: Run, other: Run) -> Option<Run>
-    ensures { IfSome result (λ both. IsJoined run other both) }
+pub fn joint_run(run: Run, other: Run) -> Option<Run>
+    ensures both { IfSome result (λ both. IsJoined run other both) }
+    ensures some { Touches run other → run.blocks + other.blocks < 2 ^ 32 → IsSome result }
 {
     let blocks = run.blocks.checked_add(other.blocks)?;
     if precedes(run, other.first) {
@@ -38,7 +39,7 @@ pub fn join_run(runs: &mut Vec<Run>, run: Run) -> bool
     ensures capacity { vec_capacity runs.new ≡ vec_capacity runs.old }
 {
     for at in 0..runs.len() {
-        if let Some(both) = joined(runs[at], run) {
+        if let Some(both) = joint_run(runs[at], run) {
             runs[at] = both;
             return true;
         }
