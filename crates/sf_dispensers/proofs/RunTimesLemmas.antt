@@ -1,5 +1,6 @@
 -- How often a block stands in runs, and how many blocks these have, after one run changed.
-use Rattle.std.proofs.Common.{◌≡◌, ℕ, zero, suc, ◌+◌, ◌-◌, ◌<◌, ◌≤◌, List, [], ◌∷◌, ◌++◌, length, get_or, set, take, drop, refl, sym, ap, ◌∙◌, subst, arith, length-append}
+use Rattle.std.proofs.Common.{◌≡◌, ℕ, zero, suc, ◌+◌, ◌-◌, ◌<◌, ◌≤◌, List, [], ◌∷◌, ◌++◌, length, get_or, set, take, drop, Some, refl, sym, ap, ◌∙◌, subst, arith, length-append}
+use Rattle.std.specs.Prelude.{slice_get}
 use Rattle.std.specs.List.{sum_by, remove, range_with_len}
 use Rattle.std.proofs.lemmas.List.FromFn.{length-range_with_len}
 use Rattle.std.proofs.lemmas.List.Sums.{sum_by-cons, sum_by_push, sum_by-set, sum_by-remove, sum_by_more, sum_by-drop_more}
@@ -133,3 +134,14 @@ take_times b runs k lt = omega (arith, times-blocks_in b (take (k + 1) runs), ti
 
 pub drop_times : (b : ℕ) (runs : List Run) (k : ℕ) → k < length runs → times b (blocks_in (drop k runs)) ≡ times b (blocks_in_run (get_or runs k no_run)) + times b (blocks_in (drop (k + 1) runs))
 drop_times b runs k lt = omega (arith, times-blocks_in b (drop k runs), times-blocks_in b (drop (k + 1) runs), sum_by-drop_more (λ (r : Run). times b (blocks_in_run r)) runs k no_run lt)
+
+-- what is read at an offset is the run there
+pub run_there : (runs : List Run) (at : ℕ) (run other : Run) → run ≡ get_or runs at run → slice_get runs at ≡ Some other → run ≡ other
+run_there [] at run other is there = absurd (cc there)
+run_there (front ∷ runs) zero run other is there = let same : front ≡ other = cc there in is ∙ same
+run_there (front ∷ runs) (suc at) run other is there = run_there runs at run other is there
+
+pub within_there : (runs : List Run) (at : ℕ) (other : Run) → slice_get runs at ≡ Some other → at < length runs
+within_there [] at other there = absurd (cc there)
+within_there (front ∷ runs) zero other there = omega arith
+within_there (front ∷ runs) (suc at) other there = let less = within_there runs at other there in omega arith

@@ -18,6 +18,10 @@ no_table = record { words = 0; slots = 0; views_name = 0; atom = 0; block = 0; o
 abbrev pub Touches : Run → Run → Type 0
 Touches run other = (run.first + run.blocks ≡ other.first) ⊎ (other.first + other.blocks ≡ run.first)
 
+-- No run can be joined with this one: with each that it touches it has more blocks than a `u32` can say.
+abbrev pub NoneJoins : List Run → Run → Type 0
+NoneJoins runs run = (at : ℕ) (other : Run) → slice_get runs at ≡ Some other → Touches other run → 2 ^ 32 ≤ other.blocks + run.blocks
+
 -- Two runs as one have the blocks of both.
 pub record IsJoined (run other both : Run) : Type 0 where
   pub blocks : (block : ℕ) → times block (blocks_in_run both) ≡ times block (blocks_in_run run) + times block (blocks_in_run other)

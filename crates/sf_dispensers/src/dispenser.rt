@@ -1,7 +1,7 @@
 //! A list of free blocks.
-ghost use Rattle.std.specs.Prelude.{◌≡◌, ◌+◌, ◌≤◌, ◌⊎◌, [], ◌∷◌, true, IfOk, IfSome, IfNone, OnOk, MatchBool, vec_capacity, vec_len, length};
+ghost use Rattle.std.specs.Prelude.{◌≡◌, ◌+◌, ◌≤◌, ◌⊎◌, [], ◌∷◌, true, false, IfOk, IfSome, IfNone, OnOk, MatchBool, vec_capacity, vec_len, length};
 ghost use Rattle.sf_dispensers.specs.Seats.{IsSeatOf, IsSpaceOf};
-ghost use Rattle.sf_dispensers.specs.Inside.{CutsRun, EndsWithin, GainsRun, GainsRuns};
+ghost use Rattle.sf_dispensers.specs.Inside.{CutsRun, EndsWithin, GainsRun, GainsRuns, NoneJoins};
 
 use crate::gathering::Gathering;
 use crate::named::Named;
@@ -66,10 +66,12 @@ fn cut_front(runs: &mut Vec<Run>, most: u64) -> Run
     }
 }
 
-// Puts a run among others: joined with one that it touches, or else last, where there is room. Or it answers false.
+// Puts a run among others: joined with one that it touches, or else last, where there is room. It answers false where it can be
+// neither.
 fn keep_run(runs: &mut Vec<Run>, run: Run) -> bool
     ensures kept { MatchBool result (GainsRun runs.old.items runs.new.items run) (runs.new.items ≡ runs.old.items) }
     ensures room { vec_len runs.old + 1 ≤ vec_capacity runs.old → result ≡ true }
+    ensures none { result ≡ false → NoneJoins runs.old.items run }
     ensures capacity { vec_capacity runs.new ≡ vec_capacity runs.old }
     ensures len { vec_len runs.new ≤ vec_len runs.old + 1 }
 {

@@ -1,6 +1,6 @@
 //! Runs that touch each other, as one.
-ghost use Rattle.std.specs.Prelude.{◌≡◌, ◌+◌, ◌^◌, ◌<◌, ◌↔◌, IsTrue, IsSome, IfSome, MatchBool, vec_capacity, vec_len};
-ghost use Rattle.sf_dispensers.specs.Inside.{GainsRun, IsJoined, Touches};
+ghost use Rattle.std.specs.Prelude.{◌≡◌, ◌+◌, ◌^◌, ◌<◌, ◌↔◌, false, IsTrue, IsSome, IfSome, MatchBool, vec_capacity, vec_len};
+ghost use Rattle.sf_dispensers.specs.Inside.{GainsRun, IsJoined, NoneJoins, Touches};
 
 use sf_types::Run;
 
@@ -32,9 +32,10 @@ pub fn joint_run(run: Run, other: Run) -> Option<Run>
     None
 }
 
-// Joins a run to the first of others that it touches. It answers whether there is one.
+// Joins a run to the first of others with which it can be joined. It answers whether there is one.
 pub fn join_run(runs: &mut Vec<Run>, run: Run) -> bool
     ensures joined { MatchBool result (GainsRun runs.old.items runs.new.items run) (runs.new ≡ runs.old) }
+    ensures none { result ≡ false → NoneJoins runs.old.items run }
     ensures len { vec_len runs.new ≡ vec_len runs.old }
     ensures capacity { vec_capacity runs.new ≡ vec_capacity runs.old }
 {
