@@ -58,3 +58,54 @@ spliced_is_map old at len front with tail middle both all before raised after wi
         ap (bytes_of_birth b) middle_is,
       );
     }
+
+-- the bytes before a window, in it and behind it
+length_in_three : (at len : ℕ) (xs : List Marked) → length (take at xs) + length (window at len xs) + length (drop (at + len) xs) ≡ length xs
+length_in_three at len xs =
+    omega (
+      arith,
+      length-append (take at xs) (drop at xs),
+      ap (λ (ms : List Marked). length ms) (take-append-drop at xs),
+      length-append (take len (drop at xs)) (drop len (drop at xs)),
+      ap (λ (ms : List Marked). length ms) (take-append-drop len (drop at xs)),
+      ap (λ (ms : List Marked). length ms) (drop-drop len at xs),
+    )
+
+-- a tree whose neighbouring parts have changed places is a map with the same numbers
+pub swapped_is_map : (old : List Marked) (at first second : ℕ) (front left right tail one two all : List Piece) (counts : Counts)
+    → length old ≤ OBJECT_BYTES → AreCounts counts old
+    → marked_in front ≡ take at old → marked_in left ≡ take first (drop at old) → marked_in right ≡ window first second (drop at old) → marked_in tail ≡ drop (first + second) (drop at old)
+    → marked_in one ≡ marked_in front ++ marked_in right → marked_in two ≡ marked_in one ++ marked_in left → marked_in all ≡ marked_in two ++ marked_in tail → IsMap all counts
+swapped_is_map old at first second front left right tail one two all counts most are front_is left_is right_is tail_is one_is two_is all_is =
+    let rest = drop at old in
+    let marked : marked_in all ≡ ((take at old ++ window first second rest) ++ take first rest) ++ drop (first + second) rest =
+    all_is
+    ∙ ap (λ (xs : List Marked). xs ++ marked_in tail) (two_is ∙ ap (λ (xs : List Marked). xs ++ marked_in left) one_is)
+    ∙ ap (λ (xs : List Marked). ((xs ++ marked_in right) ++ marked_in left) ++ marked_in tail) front_is
+    ∙ ap (λ (xs : List Marked). ((take at old ++ xs) ++ marked_in left) ++ marked_in tail) right_is
+    ∙ ap (λ (xs : List Marked). ((take at old ++ window first second rest) ++ xs) ++ marked_in tail) left_is
+    ∙ ap (λ (xs : List Marked). ((take at old ++ window first second rest) ++ take first rest) ++ xs) tail_is in
+    record {
+      most = omega (
+        arith,
+        most,
+        ap (λ (xs : List Marked). length xs) marked,
+        length-append ((take at old ++ window first second rest) ++ take first rest) (drop (first + second) rest),
+        length-append (take at old ++ window first second rest) (take first rest),
+        length-append (take at old) (window first second rest),
+        length_in_three first second rest,
+        length-append (take at old) rest,
+        ap (λ (xs : List Marked). length xs) (take-append-drop at old),
+      );
+      counts = λ b. omega (
+        arith,
+        are b,
+        ap (bytes_of_birth b) marked,
+        birth-append b ((take at old ++ window first second rest) ++ take first rest) (drop (first + second) rest),
+        birth-append b (take at old ++ window first second rest) (take first rest),
+        birth-append b (take at old) (window first second rest),
+        in_three b first second rest,
+        birth-append b (take at old) rest,
+        ap (bytes_of_birth b) (take-append-drop at old),
+      );
+    }

@@ -17,6 +17,12 @@ spliced value at remove with = record value { bytes = take at value.bytes ++ wit
 abbrev pub sliced : Value → ℕ → ℕ → Value
 sliced value at len = record value { bytes = window at len value.bytes }
 
+-- A value in which a part of so many bytes from one on and a second part behind it have changed places.
+abbrev pub swapped : Value → ℕ → ℕ → ℕ → Value
+swapped value at first second = record value {
+  bytes = take at value.bytes ++ (window (at + first) second value.bytes ++ window at first value.bytes) ++ drop (at + (first + second)) value.bytes;
+}
+
 -- So many bytes lie in a value from one on.
 abbrev pub LiesWithin : Value → ℕ → ℕ → Type 0
 LiesWithin value at len = at + len ≤ length value.bytes

@@ -10,6 +10,7 @@ mod piece_unit;
 mod seams;
 mod slices;
 mod splices;
+mod swaps;
 
 pub use map::{Map, MapList};
 pub use parts::{Chunk, ChunkList, FreshPart, Piece, PieceList, StoredPart, ZeroPart};

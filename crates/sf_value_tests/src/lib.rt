@@ -4,6 +4,8 @@
 #[cfg(test)]
 mod chunk_map;
 #[cfg(test)]
+mod edits;
+#[cfg(test)]
 mod index;
 #[cfg(test)]
 mod names;

@@ -1,0 +1,2 @@
+pub mod EditCalls
+pub mod EditedValues
