@@ -1,0 +1,13 @@
+pub mod WordLemmas
+pub mod NumberTextLemmas
+pub mod HexTextLemmas
+pub mod PayloadTextLemmas
+pub mod PayloadPrintLemmas
+pub mod ShapeLemmas
+pub mod PayloadShapeLemmas
+pub mod CallLemmas
+pub mod PayloadSizeLemmas
+pub mod CallLineLemmas
+pub mod TextLineLemmas
+pub mod RightLineLemmas
+pub mod PrintedScriptLemmas

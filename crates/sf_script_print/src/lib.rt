@@ -2,7 +2,9 @@
 #![tactic(auto)]
 
 mod call_text;
+mod laws;
 mod pieces;
 mod printing;
 
+pub use laws::a_printed_script_is_read;
 pub use printing::print;

@@ -1,0 +1,213 @@
+-- Lines that aren't refused: a call's line, and the line that is printed of it.
+use Rattle.std.proofs.Common.{◌≡◌, ℕ, ◌≤◌, Bool, true, false, not, ◌||◌, ◌&&◌, cond, List, [], ◌∷◌, ◌++◌, length, Option, Some, None, refl, sym, ap, ◌∙◌}
+use Rattle.std.specs.Prelude.{codes, is_none, nat_lt}
+use Rattle.std.specs.List.{list_all}
+use Rattle.std.specs.Option.{option_map_or}
+use Rattle.std.proofs.lemmas.Option.{cond_some}
+use Rattle.sf_types.specs.declared.limits.TheConstants.{BUFFER_BYTES}
+use Rattle.sf_types.specs.declared.call.Call.{Call}
+use Rattle.sf_types.proofs.BoolLemmas.{neither-first}
+use Rattle.sf_types.proofs.NumberLemmas.{not_less}
+use Rattle.sf_script.specs.declared.fault.Reason.{Reason}
+use Rattle.sf_script.specs.declared.fault.Reason.TheVariants.{Bytes, Place, Session, Form, Later, Limit}
+use Rattle.sf_script.specs.declared.reading.Reading.{Reading}
+use Rattle.sf_script.specs.declared.reading.Reading.TheVariants as reads
+use Rattle.sf_script.specs.LineForms.{LineForm, CallLine, ScheduleLine, form_of, call_line, schedule_line}
+use Rattle.sf_script.specs.Lines.{Line, is_line_byte}
+use Rattle.sf_script.specs.Parts.{ScriptParts}
+use Rattle.sf_script.specs.Provisional.Lines.{is_played_call, is_later}
+use Rattle.sf_script.specs.Reasons.{has_wrong_bytes, has_schedule, is_misplaced, names_no_session, has_no_form, is_not_played, passes_limit, passes_call_limit, form_passes_limit, first_reason, reason_of, with_call, after_form, after_line}
+use Rattle.sf_script.specs.Schedules.{ends_with_colon, session_of, are_turns, turns_of, schedule_words}
+use Rattle.sf_script_calls.specs.CallTable.{call_form}
+use Rattle.sf_script_calls.specs.Calls.{CallForm, spelled_call, payload_length}
+use Rattle.sf_script_calls.specs.Numbers.{is_empty_list}
+use Rattle.sf_script_calls.specs.Reads.{◌>>=◌}
+use Rattle.sf_script_calls.specs.Words.{first_word, word_at, is_word}
+use Rattle.sf_script_print.specs.PrintedCalls.{printed_call}
+use Rattle.sf_script_print.proofs.PayloadTextLemmas.{read_field}
+use Rattle.sf_script_print.proofs.CallLineLemmas.{call_line_parts, session_word, IsPrintedLine, printed_line}
+
+-- no reason of a table holds
+first_none : (holds : Bool) (reason : Reason) (table : List (Bool × Reason)) → first_reason ((holds, reason) ∷ table) ≡ None → (holds ≡ false) × (first_reason table ≡ None)
+first_none true reason table e = absurd cc
+first_none false reason table e = (refl, e)
+
+-- a line that isn't refused
+pub record IsRight (reading : Reading) (line : Line) : Type 0 where
+  pub bytes : has_wrong_bytes line ≡ false
+  pub place : is_misplaced reading line.text ≡ false
+  pub session : names_no_session reading line.text ≡ false
+  pub form : has_no_form reading line.text ≡ false
+  pub played : is_not_played reading line.text ≡ false
+  pub limit : passes_limit reading line.text ≡ false
+
+pub is_right : (reading : Reading) (line : Line) → reason_of reading line ≡ None → IsRight reading line
+is_right reading line e =
+    let f = (is_not_played reading line.text, Later) ∷ (passes_limit reading line.text, Limit) ∷ [] in
+    let a = first_none (has_wrong_bytes line) Bytes ((is_misplaced reading line.text, Place) ∷ (names_no_session reading line.text, Session) ∷ (has_no_form reading line.text, Form) ∷ f) e in
+    let b = first_none (is_misplaced reading line.text) Place ((names_no_session reading line.text, Session) ∷ (has_no_form reading line.text, Form) ∷ f) a.1 in
+    let d = first_none (names_no_session reading line.text) Session ((has_no_form reading line.text, Form) ∷ f) b.1 in
+    let g = first_none (has_no_form reading line.text) Form f d.1 in
+    let h = first_none (is_not_played reading line.text) Later ((passes_limit reading line.text, Limit) ∷ []) g.1 in
+    let i = first_none (passes_limit reading line.text) Limit [] h.1 in
+    record { bytes = a.0; place = b.0; session = d.0; form = g.0; played = h.0; limit = i.0 }
+
+pub no_reason : (reading : Reading) (line : Line) → IsRight reading line → reason_of reading line ≡ None
+no_reason reading line is = rw (is.bytes, is.place, is.session, is.form, is.played, is.limit) refl
+
+-- its bytes, and the line feed behind it
+pub line_parts : (line : Line) → has_wrong_bytes line ≡ false → (line.ended ≡ true) × (list_all is_line_byte line.text ≡ true)
+unfolding has_wrong_bytes
+line_parts line is = go line.ended (list_all is_line_byte line.text) is
+  where
+    go : (ended all : Bool) → (not ended || not all) ≡ false → (ended ≡ true) × (all ≡ true)
+    go true true e = (refl, refl)
+    go true false e = absurd cc
+    go false all e = absurd cc
+
+pub right_bytes : (text : List ℕ) → list_all is_line_byte text ≡ true → has_wrong_bytes (record { text = text; ended = true }) ≡ false
+unfolding has_wrong_bytes
+right_bytes text all = rw all refl
+
+-- its form
+pub record HasForm (reading : Reading) (text : List ℕ) : Type 0 where
+  pub form : LineForm
+  pub is : form_of reading text ≡ Some form
+  pub played : is_later form ≡ false
+  pub limit : form_passes_limit reading form ≡ false
+  pub after : after_line reading text ≡ after_form reading form
+
+pub has_form : (reading : Reading) (line : Line) → IsRight reading line → HasForm reading line.text
+has_form reading line is = go (form_of reading line.text) refl is.form is.played is.limit
+  where
+    go : (o : Option LineForm) → form_of reading line.text ≡ o → is_none o ≡ false → option_map_or is_later o false ≡ false → option_map_or (form_passes_limit reading) o false ≡ false → HasForm reading line.text
+    go (Some form) e some played limit = record { form = form; is = e; played = played; limit = limit; after = ap (λ (o : Option LineForm). option_map_or (after_form reading) o reading) e }
+    go None e some played limit = absurd cc
+
+-- a schedule line isn't played yet
+schedule_later : (sessions : ℕ) (text : List ℕ) (form : LineForm) → schedule_line sessions text ≡ Some form → is_later form ≡ true
+unfolding schedule_line is_later
+schedule_later sessions text form e =
+    let words = schedule_words text in
+    let p = cond_some (not (is_empty_list words) && are_turns sessions words) (ScheduleLine (turns_of sessions words)) form e in
+    ap is_later (sym p.1)
+
+-- a line behind the sessions line that the program plays is a call's
+record IsCall (sessions : ℕ) (text : List ℕ) (line : LineForm) : Type 0 where
+  session : ℕ
+  form : CallForm
+  is : line ≡ CallLine session form
+  read : call_line sessions text ≡ Some (CallLine session form)
+
+call_of : (sessions : ℕ) (text : List ℕ) (line : LineForm) → call_line sessions text ≡ Some line → IsCall sessions text line
+unfolding call_line
+call_of sessions text line e =
+    let a = read_field (word_at text) (λ word. (session_of sessions word.0 >>= λ session. (call_form word.1 >>= λ form. Some (CallLine session form)))) line e in
+    let s = read_field (session_of sessions a.item.0) (λ session. (call_form a.item.1 >>= λ form. Some (CallLine session form))) line a.others in
+    let f = read_field (call_form a.item.1) (λ form. Some (CallLine s.item form)) line s.others in
+    let same : line ≡ CallLine s.item f.item = cc in
+    record { session = s.item; form = f.item; is = same; read = e ∙ ap (λ (l : LineForm). Some l) same }
+
+record IsPlayedCall (sessions : ℕ) (text : List ℕ) (line : LineForm) : Type 0 where
+  no_schedule : is_word (codes "schedule") (first_word text) ≡ false
+  call : IsCall sessions text line
+
+played_call : (parts : ScriptParts) (text : List ℕ) (line : LineForm) → form_of (reads.Sessions parts) text ≡ Some line → is_later line ≡ false → IsPlayedCall parts.sessions text line
+played_call parts text line e played = go (is_word (codes "schedule") (first_word text)) refl e
+  where
+    go : (test : Bool) → is_word (codes "schedule") (first_word text) ≡ test → cond test (schedule_line parts.sessions text) (call_line parts.sessions text) ≡ Some line → IsPlayedCall parts.sessions text line
+    go true is read = let later = schedule_later parts.sessions text line read in absurd cc
+    go false is read = record { no_schedule = is; call = call_of parts.sessions text line read }
+
+-- a call that was read, and the line that is printed of it
+pub record IsCallRead (parts : ScriptParts) (text : List ℕ) : Type 0 where
+  pub session : ℕ
+  pub call : Call
+  pub low : 1 ≤ session
+  pub high : session ≤ parts.sessions
+  pub after : after_line (reads.Sessions parts) text ≡ reads.Sessions (with_call parts session call)
+  pub line : List ℕ
+  pub printed : printed_call session call ≡ line ++ 10 ∷ []
+  pub right : reason_of (reads.Sessions parts) (record { text = line; ended = true }) ≡ None
+  pub again : after_line (reads.Sessions parts) line ≡ reads.Sessions (with_call parts session call)
+  pub in_line : list_all is_line_byte line ≡ true
+  pub size : length line ≤ length text
+
+small_payload : (parts : ScriptParts) (bytes : ℕ) → passes_call_limit parts bytes ≡ false → bytes ≤ BUFFER_BYTES
+small_payload parts bytes is = not_less BUFFER_BYTES bytes (neither-first (nat_lt BUFFER_BYTES bytes) _ (neither-first _ _ is))
+
+same_place : (parts : ScriptParts) (text line : List ℕ) → first_word line ≡ first_word text → is_misplaced (reads.Sessions parts) line ≡ is_misplaced (reads.Sessions parts) text
+unfolding is_misplaced
+same_place parts text line first = ap (λ (w : List ℕ). not (is_word (codes "schedule") w || not (has_schedule parts) && ends_with_colon w)) first
+
+by_session : (parts : ScriptParts) (text : List ℕ) → is_word (codes "schedule") (first_word text) ≡ false → names_no_session (reads.Sessions parts) text ≡ is_none (session_of parts.sessions (first_word text))
+unfolding names_no_session
+by_session parts text none = rw none refl
+
+form_by_call : (parts : ScriptParts) (text : List ℕ) → is_word (codes "schedule") (first_word text) ≡ false → form_of (reads.Sessions parts) text ≡ call_line parts.sessions text
+form_by_call parts text none = rw none refl
+
+later_of_call : (session : ℕ) (form : CallForm) → is_later (CallLine session form) ≡ not (is_played_call form)
+unfolding is_later
+later_of_call session form = refl
+
+limit_of_call : (parts : ScriptParts) (session : ℕ) (form : CallForm) → form_passes_limit (reads.Sessions parts) (CallLine session form) ≡ passes_call_limit parts (payload_length (spelled_call form))
+unfolding form_passes_limit
+limit_of_call parts session form = refl
+
+right_again : (parts : ScriptParts) (text : List ℕ) (session : ℕ) (form : CallForm) (made : IsPrintedLine parts.sessions text session form)
+    → is_word (codes "schedule") (first_word text) ≡ false → list_all is_line_byte text ≡ true
+    → is_misplaced (reads.Sessions parts) text ≡ false → names_no_session (reads.Sessions parts) text ≡ false
+    → is_later (CallLine session form) ≡ false → form_passes_limit (reads.Sessions parts) (CallLine session form) ≡ false
+    → IsRight (reads.Sessions parts) (record { text = made.line; ended = true })
+right_again parts text session form made none in-text place named played limit =
+    let none-here : is_word (codes "schedule") (first_word made.line) ≡ false = ap (is_word (codes "schedule")) made.first ∙ none in
+    let read : form_of (reads.Sessions parts) made.line ≡ Some (CallLine session made.next) = form_by_call parts made.line none-here ∙ made.read in
+    let reading = reads.Sessions parts in
+    record {
+      bytes = right_bytes made.line (made.in_line in-text);
+      place = same_place parts text made.line made.first ∙ place;
+      session = by_session parts made.line none-here ∙ ap (λ (w : List ℕ). is_none (session_of parts.sessions w)) made.first ∙ sym (by_session parts text none) ∙ named;
+      form = ap (λ (o : Option LineForm). is_none o) read;
+      played = ap (λ (o : Option LineForm). option_map_or is_later o false) read ∙ later_of_call session made.next ∙ ap not made.kind ∙ sym (later_of_call session form) ∙ played;
+      limit = ap (λ (o : Option LineForm). option_map_or (form_passes_limit reading) o false) read ∙ limit_of_call parts session made.next ∙ ap (λ (c : Call). passes_call_limit parts (payload_length c)) made.same ∙ sym (limit_of_call parts session form) ∙ limit;
+    }
+
+with_made : (parts : ScriptParts) (text : List ℕ) (session : ℕ) (form : CallForm) (made : IsPrintedLine parts.sessions text session form)
+    → is_word (codes "schedule") (first_word text) ≡ false → call_line parts.sessions text ≡ Some (CallLine session form) → list_all is_line_byte text ≡ true
+    → IsRight (reads.Sessions parts) (record { text = made.line; ended = true })
+    → after_line (reads.Sessions parts) text ≡ after_form (reads.Sessions parts) (CallLine session form)
+    → IsCallRead parts text
+with_made parts text session form made none read in-text right after =
+    let named = session_word parts.sessions (call_line_parts parts.sessions text session form read).word session (call_line_parts parts.sessions text session form read).is_session in
+    let none-here : is_word (codes "schedule") (first_word made.line) ≡ false = ap (is_word (codes "schedule")) made.first ∙ none in
+    let read-again : form_of (reads.Sessions parts) made.line ≡ Some (CallLine session made.next) = form_by_call parts made.line none-here ∙ made.read in
+    let reading = reads.Sessions parts in
+    record {
+      session = session;
+      call = spelled_call form;
+      low = named.low;
+      high = named.high;
+      after = after;
+      line = made.line;
+      printed = made.printed;
+      right = no_reason reading (record { text = made.line; ended = true }) right;
+      again = ap (λ (o : Option LineForm). option_map_or (after_form reading) o reading) read-again ∙ ap (λ (c : Call). reads.Sessions (with_call parts session c)) made.same;
+      in_line = made.in_line in-text;
+      size = made.size;
+    }
+
+pub call_read : (parts : ScriptParts) (line : Line) → reason_of (reads.Sessions parts) line ≡ None → IsCallRead parts line.text
+call_read parts line e =
+    let right = is_right (reads.Sessions parts) line e in
+    let form = has_form (reads.Sessions parts) line right in
+    let played = played_call parts line.text form.form form.is form.played in
+    let session = played.call.session in
+    let call = played.call.form in
+    let in-text = (line_parts line right.bytes).1 in
+    let is-played : is_later (CallLine session call) ≡ false = ap is_later (sym played.call.is) ∙ form.played in
+    let limit : form_passes_limit (reads.Sessions parts) (CallLine session call) ≡ false = ap (form_passes_limit (reads.Sessions parts)) (sym played.call.is) ∙ form.limit in
+    let made = printed_line parts.sessions line.text session call played.call.read (small_payload parts (payload_length (spelled_call call)) (sym (limit_of_call parts session call) ∙ limit)) in
+    with_made parts line.text session call made played.no_schedule played.call.read in-text
+    (right_again parts line.text session call made played.no_schedule in-text right.place right.session is-played limit)
+    (form.after ∙ ap (after_form (reads.Sessions parts)) played.call.is)
