@@ -1,0 +1,2 @@
+-- Words that serve the proofs of the locators alone.
+pub mod LocatorFaults

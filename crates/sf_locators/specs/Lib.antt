@@ -1,0 +1,2 @@
+pub mod LocatorWrites
+pub mod Inside

@@ -1,0 +1,2 @@
+-- Words that serve the map's own search.
+pub mod Places
