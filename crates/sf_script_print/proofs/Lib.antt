@@ -11,3 +11,4 @@ pub mod CallLineLemmas
 pub mod TextLineLemmas
 pub mod RightLineLemmas
 pub mod PrintedScriptLemmas
+pub mod ReasonLemmas

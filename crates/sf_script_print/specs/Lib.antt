@@ -1,2 +1,3 @@
 pub mod PrintedCalls
 pub mod Printing
+pub mod ReasonExamples

@@ -5,6 +5,11 @@ mod call_text;
 mod laws;
 mod pieces;
 mod printing;
+mod reason_examples;
 
 pub use laws::a_printed_script_is_read;
 pub use printing::print;
+pub use reason_examples::{
+    calls_are_refused_in_order, calls_have_their_place, limits_of_scripts, options_are_later,
+    options_have_their_place, schedules_are_refused,
+};
