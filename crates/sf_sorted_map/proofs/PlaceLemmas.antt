@@ -1,6 +1,6 @@
 -- What a search among entries finds, and what a change at its place does.
-use Rattle.std.proofs.Common.{◌≡◌, ℕ, zero, suc, ◌+◌, ◌<◌, ◌≤◌, true, false, cond, List, [], ◌∷◌, ◌++◌, length, take, drop, get_or, set, Option, Some, None, refl, sym, ap, subst, ◌∙◌, arith, Result, Ok, Err, IfOk, IfErr}
-use Rattle.std.specs.Prelude.{slice_get, map}
+use Rattle.std.proofs.Common.{◌≡◌, ℕ, zero, suc, ◌+◌, ◌-◌, ◌<◌, ◌≤◌, true, false, cond, List, [], ◌∷◌, ◌++◌, length, take, drop, get_or, set, Option, Some, None, refl, sym, ap, subst, ◌∙◌, arith, Result, Ok, Err, IfOk, IfErr}
+use Rattle.std.specs.Prelude.{slice_get, map, if◌then◌else◌}
 use Rattle.std.specs.List.{AllByRecursion, insert, remove}
 use Rattle.std.specs.List.Sorted.{IsStrictlySortedBy, IsSortedBy, IsSearchInRange, IsBinarySearchResult}
 use Rattle.std.specs.Map.{keys_of}
@@ -12,6 +12,7 @@ use Rattle.std.proofs.lemmas.List.Sorted.{searchable_from_sorted}
 use Rattle.sf_types.proofs.NameMapLemmas.{sorted_from_ordered}
 use Rattle.sf_room_map.proofs.EntryLemmas.{rising_from_sorted, sorted_with, sorted_without, with_values, sorted-values}
 use Rattle.sf_room_map.specs.Entries.{value_for, with_value, without_key}
+use Rattle.sf_sorted_map.specs.UpTo.{later_entry, entry_up_to}
 use Rattle.sf_sorted_map.specs.Inside.Places.{IsFound, IsGap}
 
 module _ {K : Type 0} (R : K → K → Ordering) (o : IsTotalOrder R) where
@@ -56,7 +57,7 @@ module _ {K X : Type 0} (R : K → K → Ordering) where
 
   pub value_found : (es : List (K × X)) (k : K) (at : ℕ) (d : K × X) → IsFound R es k at → value_for R es k ≡ Some (get_or es at d).1
   value_found [] k at d found = absurd found
-  value_found (e ∷ es) k zero d found = ap (λ r. cond (is_eq r) (Some e.1) (value_for R es k)) found
+  value_found (e ∷ es) k zero d found = ap (λ r. cond (is_eq r) (Some e.1) (value_for R es k)) found.0
   value_found (e ∷ es) k (suc at) d found = ap (λ r. cond (is_eq r) (Some e.1) (value_for R es k)) found.0 ∙ value_found es k at d found.1
 
   value_below : (es : List (K × X)) (k : K) → AllByRecursion (λ other. R k other ≡ Less) (keys_of es) → value_for R es k ≡ None
@@ -70,7 +71,7 @@ module _ {K X : Type 0} (R : K → K → Ordering) where
 
   pub with_found : (es : List (K × X)) (k : K) (v : X) (at : ℕ) (d : K × X) → IsFound R es k at → with_value R es k v ≡ set es at ((get_or es at d).0, v)
   with_found [] k v at d found = absurd found
-  with_found (e ∷ es) k v zero d found = ap (λ r. match_ordering r ((k, v) ∷ e ∷ es) ((e.0, v) ∷ es) (e ∷ with_value R es k v)) found
+  with_found (e ∷ es) k v zero d found = ap (λ r. match_ordering r ((k, v) ∷ e ∷ es) ((e.0, v) ∷ es) (e ∷ with_value R es k v)) found.0
   with_found (e ∷ es) k v (suc at) d found =
       ap (λ r. match_ordering r ((k, v) ∷ e ∷ es) ((e.0, v) ∷ es) (e ∷ with_value R es k v)) found.0
       ∙ ap (λ (rest : List (K × X)). e ∷ rest) (with_found es k v at d found.1)
@@ -85,7 +86,7 @@ module _ {K X : Type 0} (R : K → K → Ordering) where
 
   pub without_found : (es : List (K × X)) (k : K) (at : ℕ) → IsFound R es k at → without_key R es k ≡ remove es at
   without_found [] k at found = absurd found
-  without_found (e ∷ es) k zero found = ap (λ r. cond (is_eq r) es (e ∷ without_key R es k)) found
+  without_found (e ∷ es) k zero found = ap (λ r. cond (is_eq r) es (e ∷ without_key R es k)) found.0
   without_found (e ∷ es) k (suc at) found =
       ap (λ r. cond (is_eq r) es (e ∷ without_key R es k)) found.0 ∙ ap (λ (rest : List (K × X)). e ∷ rest) (without_found es k at found.1)
 
@@ -97,6 +98,46 @@ module _ {K X : Type 0} (R : K → K → Ordering) where
   without_in_gap es k zero gap = without_below es k gap
   without_in_gap [] k (suc at) gap = absurd gap
   without_in_gap (e ∷ es) k (suc at) gap = ap (λ r. cond (is_eq r) es (e ∷ without_key R es k)) gap.0 ∙ ap (λ (rest : List (K × X)). e ∷ rest) (without_in_gap es k at gap.1)
+
+  none_up_to : (es : List (K × X)) (k : K) → AllByRecursion (λ other. R k other ≡ Less) (keys_of es) → entry_up_to R es k ≡ None
+  none_up_to [] k all = refl
+  none_up_to (e ∷ es) k all =
+      ap (λ r. later_entry (if is_lt r then None else Some e) (entry_up_to R es k)) all.0 ∙ ap (later_entry {A = K × X} None) (none_up_to es k all.1)
+
+  up_to_found : (es : List (K × X)) (k : K) (at : ℕ) (d : K × X) → IsFound R es k at → entry_up_to R es k ≡ Some (get_or es at d)
+  up_to_found [] k at d found = absurd found
+  up_to_found (e ∷ es) k zero d found =
+      ap (λ r. later_entry (if is_lt r then None else Some e) (entry_up_to R es k)) found.0 ∙ ap (later_entry (Some e)) (none_up_to es k found.1)
+  up_to_found (e ∷ es) k (suc at) d found =
+      ap (λ r. later_entry (if is_lt r then None else Some e) (entry_up_to R es k)) found.0 ∙ ap (later_entry (Some e)) (up_to_found es k at d found.1)
+
+  up_to_gap : (es : List (K × X)) (k : K) (at : ℕ) (d : K × X) → IsGap R es k (suc at) → entry_up_to R es k ≡ Some (get_or es at d)
+  up_to_gap [] k at d gap = absurd gap
+  up_to_gap (e ∷ es) k zero d gap =
+      ap (λ r. later_entry (if is_lt r then None else Some e) (entry_up_to R es k)) gap.0 ∙ ap (later_entry (Some e)) (none_up_to es k gap.1)
+  up_to_gap (e ∷ es) k (suc at) d gap =
+      ap (λ r. later_entry (if is_lt r then None else Some e) (entry_up_to R es k)) gap.0 ∙ ap (later_entry (Some e)) (up_to_gap es k at d gap.1)
+
+  entry_read : (es : List (K × X)) (at : ℕ) (d : K × X) → at < length es → slice_get es at ≡ Some (get_or es at d)
+  entry_read [] at d below = absurd (omega (arith, below))
+  entry_read (e ∷ es) zero d below = refl
+  entry_read (e ∷ es) (suc at) d below = entry_read es at d (omega (arith, below))
+
+  -- the last entry up to a key, where the key is found and where it would go
+  pub found_up_to : (es : List (K × X)) (k : K) (at : ℕ) → IsFound R es k at → entry_up_to R es k ≡ slice_get es at
+  found_up_to [] k at found = absurd found
+  found_up_to (e ∷ es) k at found = up_to_found (e ∷ es) k at e found ∙ sym (entry_read (e ∷ es) at e (found_below (e ∷ es) k at found))
+
+  gap_at : (es : List (K × X)) (k : K) (at : ℕ) → IsGap R es k (suc at) → entry_up_to R es k ≡ slice_get es at
+  gap_at [] k at gap = absurd gap
+  gap_at (e ∷ es) k at gap = up_to_gap (e ∷ es) k at e gap ∙ sym (entry_read (e ∷ es) at e (omega (arith, gap_within (e ∷ es) k (suc at) gap)))
+
+  pub gap_up_to : (es : List (K × X)) (k : K) (at : ℕ) → 1 ≤ at → IsGap R es k at → entry_up_to R es k ≡ slice_get es (at - 1)
+  gap_up_to es k zero one gap = absurd (omega (arith, one))
+  gap_up_to es k (suc at) one gap = gap_at es k at gap ∙ ap (slice_get es) (omega arith)
+
+  pub none_below_gap : (es : List (K × X)) (k : K) → IsGap R es k 0 → entry_up_to R es k ≡ None
+  none_below_gap es k gap = none_up_to es k gap
 
   key_at : (P : K → Type 0) (es : List (K × X)) (at : ℕ) (d : K × X) → AllByRecursion P (keys_of es) → at < length es → P (get_or es at d).0
   key_at P [] at d all below = absurd (omega (arith, below))
@@ -113,10 +154,14 @@ module _ {K X : Type 0} (R : K → K → Ordering) where
     pairs_sorted : (es : List (K × X)) → IsStrictlySortedBy R (keys_of es) → IsSortedBy (λ (a b : K × X). is_lt (R a.0 b.0)) es
     pairs_sorted es rising j d from below = subst (λ n. is_lt (R (get_or es n d).0 (get_or es j d).0) ≡ false) {x = suc j} (omega arith) (pair_sorted es j d rising below)
 
+    all_less : (es : List (K × X)) (x k : K) → R k x ≡ Equal → AllByRecursion (λ y. R x y ≡ Less) (keys_of es) → AllByRecursion (λ y. R k y ≡ Less) (keys_of es)
+    all_less [] x k tie all = tt
+    all_less (e ∷ es) x k tie all = (o.congr k x e.0 tie ∙ all.0, all_less es x k tie all.1)
+
     found_from : (es : List (K × X)) (k : K) (at : ℕ) → IsStrictlySortedBy R (keys_of es) → at < length es → ((d : K × X) → R (get_or es at d).0 k ≡ Equal) → IsFound R es k at
     unfolding IsStrictlySortedBy
     found_from [] k at rising below is = absurd (omega (arith, below))
-    found_from (e ∷ es) k zero rising below is = turned_equal R o e.0 k (is e)
+    found_from (e ∷ es) k zero rising below is = (turned_equal R o e.0 k (is e), all_less es e.0 k (turned_equal R o e.0 k (is e)) rising.0)
     found_from (e ∷ es) k (suc at) rising below is =
         let other = (get_or es at e).0 in
         let lesser : R e.0 other ≡ Less = key_at (λ y. R e.0 y ≡ Less) es at e rising.0 (omega (arith, below)) in

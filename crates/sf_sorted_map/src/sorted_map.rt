@@ -6,6 +6,7 @@ ghost use Rattle.std.specs.Map.Iter.{deref_pair};
 ghost use Rattle.std.specs.List.Sorted.{IsStrictlySortedBy, IsSearchInRange};
 ghost use Rattle.sf_types.specs.Rooms.{MakesRoom, GrowsWithin};
 ghost use Rattle.sf_room_map.specs.Entries.{value_for, with_value, without_key, added_at};
+ghost use Rattle.sf_sorted_map.specs.UpTo.{entry_up_to};
 ghost use Rattle.sf_sorted_map.specs.Inside.Places.{IsFound, IsGap};
 
 use sf_room_map::{Change, RoomKey};
@@ -101,6 +102,17 @@ impl<K: RoomKey, V> SortedMap<K, V> {
         match self.entries.get(k) {
             Some(entry) => Some((&entry.0, &entry.1)),
             None => None,
+        }
+    }
+
+    /// The last entry whose key is at most a key. None exactly where all keys are greater.
+    pub fn at_most(&self, key: &K) -> Option<(&K, &V)>
+        ensures { option_map deref_pair result ≡ entry_up_to K.cmp self.now.held key.now }
+    {
+        match search(&self.entries, key) {
+            Ok(at) => self.entry(at),
+            Err(0) => None,
+            Err(at) => self.entry(at - 1),
         }
     }
 

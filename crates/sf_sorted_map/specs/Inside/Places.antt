@@ -5,10 +5,10 @@ use Rattle.std.specs.Map.{keys_of}
 use Rattle.std.specs.declared.cmp.Ordering.{Ordering}
 use Rattle.std.specs.declared.cmp.Ordering.TheVariants.{Less, Equal, Greater}
 
--- The entry at a place has the key, and those before it have lesser ones.
+-- The entry at a place has the key, those before it have lesser ones, and those behind it greater ones.
 abbrev pub IsFound : {K X : Type 0} → (K → K → Ordering) → List (K × X) → K → ℕ → Type 0
 IsFound order [] key at = ⊥
-IsFound order (e ∷ es) key zero = order key e.0 ≡ Equal
+IsFound order (e ∷ es) key zero = (order key e.0 ≡ Equal) × AllByRecursion (λ other. order key other ≡ Less) (keys_of es)
 IsFound order (e ∷ es) key (suc at) = (order key e.0 ≡ Greater) × IsFound order es key at
 
 -- No entry has the key, which would go to a place: the entries before it have lesser keys, and those from it on greater ones.

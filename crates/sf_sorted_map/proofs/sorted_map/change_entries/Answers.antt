@@ -1,5 +1,4 @@
-use Rattle.std.proofs.Common.{◌≡◌, ◌∙◌, ap, arith, set, get_or, ◌++◌, take, drop}
-use Rattle.std.specs.Prelude.{map}
+use Rattle.std.proofs.Common.{◌∙◌, ap, arith, set, get_or}
 use Rattle.std.specs.Map.{keys_of}
 use Rattle.sf_sorted_map.proofs.PlaceLemmas.{values_changed_next, keys_changed}
 use Rattle.sf_sorted_map.proofs.sorted_map.change_entries.Goals as goal
