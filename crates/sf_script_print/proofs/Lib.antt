@@ -11,4 +11,7 @@ pub mod CallLineLemmas
 pub mod TextLineLemmas
 pub mod RightLineLemmas
 pub mod PrintedScriptLemmas
+pub mod SessionLemmas
+pub mod ScheduleLemmas
+pub mod OptionLineLemmas
 pub mod ReasonLemmas

@@ -8,10 +8,7 @@ use Rattle.sf_script_calls.specs.Payloads.{Payload, payload_of}
 use Rattle.sf_script_calls.specs.Reads.{◌>>=◌}
 use Rattle.sf_script_print.specs.PrintedCalls.{with_payload, call_text, printed_payload, printed_text}
 use Rattle.sf_script_print.proofs.PayloadTextLemmas.{read_field}
-use Rattle.sf_script_print.proofs.ShapeLemmas.{AreBehind, payload_behind, locator_field, number_field, printed_payload_one, printed_payload_two, printed_payload_three}
-
-same_item : {X : Type 0} (x y : X) → Some x ≡ Some y → x ≡ y
-same_item x y e = cc
+use Rattle.sf_script_print.proofs.ShapeLemmas.{same_item, AreBehind, payload_behind, locator_field, number_field, printed_payload_one, printed_payload_two, printed_payload_three}
 
 pub locator_payload_shape : (word : List ℕ) (call : List ℕ → PayloadCall) → ((at bytes : List ℕ) → call_text (call_with (call at) bytes) ≡ with_payload word (at ∷ []) [] bytes) → AreBehind word (locator_payload_form call)
 unfolding locator_payload_form
@@ -90,9 +87,6 @@ locator_number_payload_shape word call is text read e =
 front_three : (at first second rest : List ℕ) → (at ++ (32 ∷ first ++ (32 ∷ second ++ 32 ∷ []))) ++ rest ≡ at ++ (32 ∷ first ++ (32 ∷ second ++ 32 ∷ rest))
 front_three at first second rest = simp append_assoc
 
-join_numbers : (first second rest : List ℕ) → (first ++ second) ++ rest ≡ first ++ (second ++ rest)
-join_numbers first second rest = append_assoc first second rest
-
 pub locator_two_numbers_payload_shape : (word : List ℕ) (call : List ℕ → ℕ → ℕ → PayloadCall) → ((at : List ℕ) (a b : ℕ) (bytes : List ℕ) → call_text (call_with (call at a b) bytes) ≡ with_payload word (at ∷ []) (a ∷ b ∷ []) bytes) → AreBehind word (locator_two_numbers_payload_form call)
 unfolding locator_two_numbers_payload_form
 locator_two_numbers_payload_shape word call is text read e =
@@ -108,7 +102,7 @@ locator_two_numbers_payload_shape word call is text read e =
       whole = at.whole ∙ ap (λ (r : List ℕ). a.item.0 ++ 32 ∷ r) (first.whole ∙ ap (λ (r : List ℕ). decimal n.item.0 ++ 32 ∷ r) fields.whole) ∙ sym (front_three a.item.0 (decimal n.item.0) (decimal b.item.0) fields.payload_text);
       read = fields.read;
       printed = λ bytes. ap printed_text (is a.item.0 n.item.0 b.item.0 bytes) ∙ printed_payload_three word a.item.0 n.item.0 b.item.0 bytes
-          ∙ ap (λ (t : List ℕ). 32 ∷ word ++ (32 ∷ a.item.0 ++ t)) (join_numbers (32 ∷ decimal n.item.0) (32 ∷ decimal b.item.0) (32 ∷ printed_payload bytes))
+          ∙ ap (λ (t : List ℕ). 32 ∷ word ++ (32 ∷ a.item.0 ++ t)) (append_assoc (32 ∷ decimal n.item.0) (32 ∷ decimal b.item.0) (32 ∷ printed_payload bytes))
           ∙ ap (λ (t : List ℕ). 32 ∷ word ++ 32 ∷ t) (sym (front_three a.item.0 (decimal n.item.0) (decimal b.item.0) (printed_payload bytes)));
       again = λ other next reads. again a.item.0 n.item.0 b.item.0 other next at.again first.again (fields.again other next reads);
     })

@@ -1,17 +1,15 @@
 -- A printed script is read as the script that it was made of.
-use Rattle.std.proofs.Common.{◌≡◌, ℕ, ◌+◌, ◌≤◌, Bool, true, false, cond, List, [], ◌∷◌, ◌++◌, length, Option, Some, None, Result, Ok, refl, sym, ap, ◌∙◌, arith}
+use Rattle.std.proofs.Common.{◌≡◌, ℕ, ◌+◌, ◌≤◌, Bool, true, false, cond, List, [], ◌∷◌, ◌++◌, length, replicate, Some, None, Result, Ok, refl, sym, ap, ◌∙◌, arith}
 use Rattle.std.specs.Prelude.{codes, nat_lt, ◌==◌}
 use Rattle.std.specs.Fmt.{decimal}
 use Rattle.std.proofs.lemmas.Bool.{le-ltb}
 use Rattle.std.proofs.lemmas.Fmt.{decimal_digit}
-use Rattle.std.proofs.lemmas.List.{length-append, append_assoc, append-nil}
+use Rattle.std.proofs.lemmas.List.{append-nil}
 use Rattle.std.proofs.lemmas.Option.{cond_some}
 use Rattle.sf_types.specs.Limits.{standard_options}
 use Rattle.sf_types.specs.declared.call.Call.{Call}
-use Rattle.sf_types.specs.declared.options.Options.{Options}
 use Rattle.sf_types.proofs.BoolLemmas.{not_not}
 use Rattle.sf_types.proofs.NumberLemmas.{same_number, not_less}
-use Rattle.sf_script.specs.declared.fault.Reason.{Reason}
 use Rattle.sf_script.specs.declared.fault.Reason.TheVariants.{Size}
 use Rattle.sf_script.specs.declared.fault.ScriptFault.{ScriptFault}
 use Rattle.sf_script.specs.declared.limits.TheConstants.{SCRIPT_BYTES}
@@ -23,97 +21,22 @@ use Rattle.sf_script.specs.Lines.{Line, lines_of}
 use Rattle.sf_script.specs.OptionLines.{option_of}
 use Rattle.sf_script.specs.Parts.{ScriptParts}
 use Rattle.sf_script.specs.Provisional.Lines.{is_later}
-use Rattle.sf_script.specs.Reasons.{no_options, with_call, after_form, after_line, reason_of}
-use Rattle.sf_script.specs.Scripts.{fault_at, fault_or, script_at_end, script_from, script_of}
+use Rattle.sf_script.specs.Reasons.{no_options, after_form, after_line, reason_of}
+use Rattle.sf_script.specs.Scripts.{fault_at, script_from, script_of}
 use Rattle.sf_script_calls.specs.Numbers.{number_of}
 use Rattle.sf_script_calls.specs.Reads.{◌>>=◌}
 use Rattle.sf_script_calls.specs.Words.{word_at, is_word}
-use Rattle.sf_script_print.specs.PrintedCalls.{printed_call}
-use Rattle.sf_script_print.specs.Printing.{printed, printed_calls, printed_options, printed_turns}
+use Rattle.sf_script_print.specs.Printing.{printed, printed_sessions, printed_options, printed_turns}
 use Rattle.sf_script_print.proofs.WordLemmas.{cut_of, spelled}
 use Rattle.sf_script_print.proofs.NumberTextLemmas.{number_text}
 use Rattle.sf_script_print.proofs.PayloadTextLemmas.{read_field}
-use Rattle.sf_script_print.proofs.TextLineLemmas.{line_size, lines_size, ended_size, size_of_lines, lines_behind, no_lines}
-use Rattle.sf_script_print.proofs.RightLineLemmas.{is_right, line_parts, has_form, IsCallRead, call_read}
+use Rattle.sf_script_print.proofs.SessionLemmas.{right_script, line_read, lines_read, none_read, AreWellRead, AreLinesRead, calls_read, sessions_read}
+use Rattle.sf_script_print.proofs.TextLineLemmas.{line_size, lines_size, ended_size, size_of_lines, lines_behind}
+use Rattle.sf_script_print.proofs.RightLineLemmas.{script_with, is_right, line_parts, has_form}
 
--- a line that is read
-went : (number : ℕ) (reason : Option Reason) (rest : Result ScriptParts ScriptFault) (script : ScriptParts) → fault_or number reason rest ≡ Ok script → (reason ≡ None) × (rest ≡ Ok script)
-went number (Some reason) rest script e = absurd cc
-went number None rest script e = (refl, e)
-
-line_read : (number : ℕ) (reading : Reading) (line : Line) (lines : List Line) (script : ScriptParts) → script_from number reading (line ∷ lines) ≡ Ok script
-    → (reason_of reading line ≡ None) × (script_from (number + 1) (after_line reading line.text) lines ≡ Ok script)
-unfolding script_from
-line_read number reading line lines script e = went number (reason_of reading line) (script_from (number + 1) (after_line reading line.text) lines) script e
-
-lines_read : (number : ℕ) (reading : Reading) (line : Line) (lines : List Line) (script : ScriptParts) → reason_of reading line ≡ None → script_from (number + 1) (after_line reading line.text) lines ≡ Ok script → script_from number reading (line ∷ lines) ≡ Ok script
-unfolding script_from
-lines_read number reading line lines script right rest = ap (λ (o : Option Reason). fault_or number o (script_from (number + 1) (after_line reading line.text) lines)) right ∙ rest
-
-none_read : (number : ℕ) (reading : Reading) → script_from number reading [] ≡ script_at_end number reading
-unfolding script_from
-none_read number reading = refl
-
--- a script of one session
-abbrev pub one_session : Options → List Call → ScriptParts
-one_session options calls = record { options = options; sessions = 1; calls = calls ∷ []; turns = [] }
-
--- the calls that lines add to those before them
-record AreCallsRead (options : Options) (before : List Call) (lines : List Line) (script : ScriptParts) : Type 0 where
-  calls : List Call
-  is : one_session options (before ++ calls) ≡ script
-  again : (number : ℕ) → script_from number (reads.Sessions (one_session options before)) (lines_of (printed_calls 1 calls)) ≡ Ok script
-  size : length (printed_calls 1 calls) ≤ lines_size lines
-
-abbrev right_script : ScriptParts → Result ScriptParts ScriptFault
-right_script script = Ok script
-
-same_script : (a b : ScriptParts) → right_script a ≡ Ok b → a ≡ b
-same_script a b e = cc
-
-no_calls : (options : Options) (before : List Call) (script : ScriptParts) (number : ℕ) → script_from number (reads.Sessions (one_session options before)) [] ≡ Ok script → AreCallsRead options before [] script
-no_calls options before script number e =
-    let same = same_script (one_session options before) script (sym (none_read number (reads.Sessions (one_session options before))) ∙ e) in
-    record {
-      calls = [];
-      is = ap (λ (calls : List Call). one_session options calls) (append-nil before) ∙ same;
-      again = λ at. ap (script_from at (reads.Sessions (one_session options before))) no_lines ∙ none_read at (reads.Sessions (one_session options before)) ∙ ap (λ (s : ScriptParts). Ok s) same;
-      size = omega arith;
-    }
-
-with_one : (options : Options) (before : List Call) (session : ℕ) (call : Call) → session ≡ 1 → with_call (one_session options before) session call ≡ one_session options (before ++ call ∷ [])
-with_one options before session call one = ap (λ (s : ℕ). with_call (one_session options before) s call) one
-
-more_calls : (options : Options) (before : List Call) (line : Line) (lines : List Line) (script : ScriptParts) → line.ended ≡ true → (read : IsCallRead (one_session options before) line.text) → AreCallsRead options (before ++ read.call ∷ []) lines script → AreCallsRead options before (line ∷ lines) script
-more_calls options before line lines script ended read rest =
-    let one : read.session ≡ 1 = omega (arith, read.low, read.high) in
-    let reading = reads.Sessions (one_session options before) in
-    let next = reads.Sessions (one_session options (before ++ read.call ∷ [])) in
-    let behind = printed_calls 1 rest.calls in
-    let text : printed_call 1 read.call ≡ read.line ++ 10 ∷ [] = ap (λ (s : ℕ). printed_call s read.call) (sym one) ∙ read.printed in
-    let whole : printed_calls 1 (read.call ∷ rest.calls) ≡ read.line ++ 10 ∷ behind = ap (λ (t : List ℕ). t ++ behind) text ∙ append_assoc read.line (10 ∷ []) behind in
-    let after : after_line reading read.line ≡ next = read.again ∙ ap (λ (p : ScriptParts). reads.Sessions p) (with_one options before read.session read.call one) in
-    record {
-      calls = read.call ∷ rest.calls;
-      is = ap (λ (calls : List Call). one_session options calls) (sym (append_assoc before (read.call ∷ []) rest.calls)) ∙ rest.is;
-      again = λ number.
-          ap (λ (t : List ℕ). script_from number reading (lines_of t)) whole
-          ∙ ap (script_from number reading) (lines_behind read.line behind read.in_line)
-          ∙ lines_read number reading (record { text = read.line; ended = true }) (lines_of behind) script read.right
-          (ap (λ (r : Reading). script_from (number + 1) r (lines_of behind)) after ∙ rest.again (number + 1));
-      size = omega (arith, ap length whole, length-append read.line (10 ∷ behind), read.size, rest.size, ended_size line ended);
-    }
-
-calls_read : (options : Options) (before : List Call) (lines : List Line) (script : ScriptParts) (number : ℕ) → script_from number (reads.Sessions (one_session options before)) lines ≡ Ok script → AreCallsRead options before lines script
-calls_read options before [] script number e = no_calls options before script number e
-calls_read options before (line ∷ lines) script number e =
-    let parts = line_read number (reads.Sessions (one_session options before)) line lines script e in
-    let read = call_read (one_session options before) line parts.0 in
-    let ended = (line_parts line (is_right (reads.Sessions (one_session options before)) line parts.0).bytes).0 in
-    let one : read.session ≡ 1 = omega (arith, read.low, read.high) in
-    let after = read.after ∙ ap (λ (p : ScriptParts). reads.Sessions p) (with_one options before read.session read.call one) in
-    more_calls options before line lines script ended read
-    (calls_read options (before ++ read.call ∷ []) lines script (number + 1) (ap (λ (r : Reading). script_from (number + 1) r lines) (sym after) ∙ parts.1))
+-- a script of one session without calls
+no_calls : AreWellRead 1 ([] ∷ [])
+no_calls = record { all = (tt, tt); count = refl; few = omega arith; small = omega arith }
 
 -- the header
 abbrev header : List ℕ
@@ -163,10 +86,10 @@ sessions_is text form e played =
     sessions_form text a.item.0 a.item.1 form (is_word (codes "sessions") a.item.0) a.is refl a.others played
 
 -- a printed script
-printed_is : (calls : List Call) → printed (one_session standard_options calls) ≡ header ++ 10 ∷ (sessions ++ 10 ∷ printed_calls 1 calls)
+printed_is : (calls : List (List Call)) → printed (script_with standard_options 1 calls) ≡ header ++ 10 ∷ (sessions ++ 10 ∷ printed_sessions 1 calls)
 unfolding printed printed_options printed_turns
 printed_is calls =
-    rw (decimal_digit 1 (omega arith)) (ap (λ (t : List ℕ). header ++ 10 ∷ (sessions ++ 10 ∷ t)) (append-nil (printed_calls 1 calls ++ []) ∙ append-nil (printed_calls 1 calls)))
+    rw (decimal_digit 1 (omega arith)) (ap (λ (t : List ℕ). header ++ 10 ∷ (sessions ++ 10 ∷ t)) (append-nil (printed_sessions 1 calls)))
 
 -- what is proved of a script that was read
 pub record IsPrinted (bytes : List ℕ) (script : ScriptParts) : Type 0 where
@@ -201,35 +124,40 @@ known_header line right =
     let is = header_is line.text form.form form.is in
     known reads.Nothing (reads.Options no_options) line header right is.0 (form.after ∙ ap (after_form reads.Nothing) (sym is.1))
 
-known_sessions : (line : Line) → reason_of (reads.Options no_options) line ≡ None → IsKnown (reads.Options no_options) (reads.Sessions (one_session standard_options [])) line sessions
+known_sessions : (line : Line) → reason_of (reads.Options no_options) line ≡ None → IsKnown (reads.Options no_options) (reads.Sessions (script_with standard_options 1 ([] ∷ []))) line sessions
 known_sessions line right =
     let form = has_form (reads.Options no_options) line (is_right (reads.Options no_options) line right) in
     let is = sessions_is line.text form.form form.is form.played in
-    known (reads.Options no_options) (reads.Sessions (one_session standard_options [])) line sessions right is.0 (form.after ∙ ap (after_form (reads.Options no_options)) (sym is.1))
+    known (reads.Options no_options) (reads.Sessions (script_with standard_options 1 ([] ∷ []))) line sessions right is.0 (form.after ∙ ap (after_form (reads.Options no_options)) (sym is.1))
 
 known_lines : (bytes : List ℕ) (first second : Line) (lines : List Line) (script : ScriptParts)
     → length bytes ≤ SCRIPT_BYTES → lines_size (first ∷ second ∷ lines) ≤ length bytes
     → IsKnown reads.Nothing (reads.Options no_options) first header
-    → IsKnown (reads.Options no_options) (reads.Sessions (one_session standard_options [])) second sessions
-    → AreCallsRead standard_options [] lines script
+    → IsKnown (reads.Options no_options) (reads.Sessions (script_with standard_options 1 ([] ∷ []))) second sessions
+    → AreLinesRead standard_options 1 ([] ∷ []) lines script
     → IsPrinted bytes script
 unfolding script_of
 known_lines bytes first second lines script small fits head sess calls =
-    let text = header ++ 10 ∷ (sessions ++ 10 ∷ printed_calls 1 calls.calls) in
+    let text = header ++ 10 ∷ (sessions ++ 10 ∷ printed_sessions 1 calls.calls) in
     let whole : printed script ≡ text = ap printed (sym calls.is) ∙ printed_is calls.calls in
     let head_size : length first.text ≡ 13 = ap length head.text_is in
     let sess_size : length second.text ≡ 10 = ap length sess.text_is in
     let head_line : line_size first ≡ 14 = omega (arith, ended_size first head.ended, head_size) in
     let sess_line : line_size second ≡ 11 = omega (arith, ended_size second sess.ended, sess_size) in
-    let text_size : length text ≡ length (printed_calls 1 calls.calls) + 25 = omega arith in
+    let text_size : length text ≡ length (printed_sessions 1 calls.calls) + 25 = omega arith in
     let shown : length (printed script) ≡ length text = ap length whole in
     let size : length (printed script) ≤ length bytes = omega (arith, head_line, sess_line, text_size, shown, calls.size, fits) in
-    let cut : lines_of text ≡ record { text = header; ended = true } ∷ record { text = sessions; ended = true } ∷ lines_of (printed_calls 1 calls.calls) =
-    lines_behind header (sessions ++ 10 ∷ printed_calls 1 calls.calls) refl ∙ ap (λ (l : List Line). record { text = header; ended = true } ∷ l) (lines_behind sessions (printed_calls 1 calls.calls) refl) in
-    let after_sessions = ap (λ (r : Reading). script_from 3 r (lines_of (printed_calls 1 calls.calls))) sess.again ∙ calls.again 3 in
-    let at_sessions = lines_read 2 (reads.Options no_options) (record { text = sessions; ended = true }) (lines_of (printed_calls 1 calls.calls)) script sess.right after_sessions in
-    let at_header = lines_read 1 reads.Nothing (record { text = header; ended = true }) (record { text = sessions; ended = true } ∷ lines_of (printed_calls 1 calls.calls)) script head.right
-    (ap (λ (r : Reading). script_from 2 r (record { text = sessions; ended = true } ∷ lines_of (printed_calls 1 calls.calls))) head.again ∙ at_sessions) in
+    let cut : lines_of text ≡ record { text = header; ended = true } ∷ record { text = sessions; ended = true } ∷ lines_of (printed_sessions 1 calls.calls) =
+    lines_behind header (sessions ++ 10 ∷ printed_sessions 1 calls.calls) refl ∙ ap (λ (l : List Line). record { text = header; ended = true } ∷ l) (lines_behind sessions (printed_sessions 1 calls.calls) refl) in
+    let read_from : ([] ∷ []) ≡ replicate (length calls.calls) [] = ap (λ (n : ℕ). replicate n []) (sym calls.well.count) in
+    let again : script_from 3 (reads.Sessions (script_with standard_options 1 ([] ∷ []))) (lines_of (printed_sessions 1 calls.calls)) ≡ Ok script =
+    ap (λ (c : List (List Call)). script_from 3 (reads.Sessions (script_with standard_options 1 c)) (lines_of (printed_sessions 1 calls.calls))) read_from
+    ∙ sessions_read standard_options 1 1 [] calls.calls (omega arith) calls.well.all (omega (arith, calls.well.few)) (omega (arith, calls.well.small)) 3
+    ∙ ap right_script calls.is in
+    let after_sessions = ap (λ (r : Reading). script_from 3 r (lines_of (printed_sessions 1 calls.calls))) sess.again ∙ again in
+    let at_sessions = lines_read 2 (reads.Options no_options) (record { text = sessions; ended = true }) (lines_of (printed_sessions 1 calls.calls)) script sess.right after_sessions in
+    let at_header = lines_read 1 reads.Nothing (record { text = header; ended = true }) (record { text = sessions; ended = true } ∷ lines_of (printed_sessions 1 calls.calls)) script head.right
+    (ap (λ (r : Reading). script_from 2 r (record { text = sessions; ended = true } ∷ lines_of (printed_sessions 1 calls.calls))) head.again ∙ at_sessions) in
     let read : script_from 1 reads.Nothing (lines_of (printed script)) ≡ Ok script = ap (λ (t : List ℕ). script_from 1 reads.Nothing (lines_of t)) whole ∙ ap (script_from 1 reads.Nothing) cut ∙ at_header in
     record {
       again = rw (le-ltb SCRIPT_BYTES (length (printed script)) (omega (arith, size, small))) read;
@@ -248,7 +176,7 @@ by_lines bytes (first ∷ second ∷ lines) script small fits e =
     let head = known_header first one.0 in
     let two = line_read 2 (reads.Options no_options) second lines script (ap (λ (r : Reading). script_from 2 r (second ∷ lines)) (sym head.after) ∙ one.1) in
     let sess = known_sessions second two.0 in
-    let calls = calls_read standard_options [] lines script 3 (ap (λ (r : Reading). script_from 3 r lines) (sym sess.after) ∙ two.1) in
+    let calls = calls_read standard_options 1 ([] ∷ []) lines script 3 no_calls (ap (λ (r : Reading). script_from 3 r lines) (sym sess.after) ∙ two.1) in
     known_lines bytes first second lines script small fits head sess calls
 
 not_large : (large : Bool) (bytes : List ℕ) (rest : Result ScriptParts ScriptFault) (script : ScriptParts) → cond large (fault_at 0 Size) rest ≡ Ok script → (large ≡ false) × (rest ≡ Ok script)

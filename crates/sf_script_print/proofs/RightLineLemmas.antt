@@ -6,6 +6,7 @@ use Rattle.std.specs.Option.{option_map_or}
 use Rattle.std.proofs.lemmas.Option.{cond_some}
 use Rattle.sf_types.specs.declared.limits.TheConstants.{BUFFER_BYTES}
 use Rattle.sf_types.specs.declared.call.Call.{Call}
+use Rattle.sf_types.specs.declared.options.Options.{Options}
 use Rattle.sf_types.proofs.BoolLemmas.{neither-first}
 use Rattle.sf_types.proofs.NumberLemmas.{not_less}
 use Rattle.sf_script.specs.declared.fault.Reason.{Reason}
@@ -16,7 +17,7 @@ use Rattle.sf_script.specs.LineForms.{LineForm, CallLine, ScheduleLine, form_of,
 use Rattle.sf_script.specs.Lines.{Line, is_line_byte}
 use Rattle.sf_script.specs.Parts.{ScriptParts}
 use Rattle.sf_script.specs.Provisional.Lines.{is_played_call, is_later}
-use Rattle.sf_script.specs.Reasons.{has_wrong_bytes, has_schedule, is_misplaced, names_no_session, has_no_form, is_not_played, passes_limit, passes_call_limit, form_passes_limit, first_reason, reason_of, with_call, after_form, after_line}
+use Rattle.sf_script.specs.Reasons.{has_wrong_bytes, is_misplaced, names_no_session, has_no_form, is_not_played, passes_limit, passes_call_limit, form_passes_limit, first_reason, reason_of, with_call, after_form, after_line}
 use Rattle.sf_script.specs.Schedules.{ends_with_colon, session_of, are_turns, turns_of, schedule_words}
 use Rattle.sf_script_calls.specs.CallTable.{call_form}
 use Rattle.sf_script_calls.specs.Calls.{CallForm, spelled_call, payload_length}
@@ -119,26 +120,36 @@ played_call parts text line e played = go (is_word (codes "schedule") (first_wor
     go true is read = let later = schedule_later parts.sessions text line read in absurd cc
     go false is read = record { no_schedule = is; call = call_of parts.sessions text line read }
 
--- a call that was read, and the line that is printed of it
-pub record IsCallRead (parts : ScriptParts) (text : List ℕ) : Type 0 where
+-- a script with these calls that has no schedule
+abbrev pub script_with : Options → ℕ → List (List Call) → ScriptParts
+script_with options sessions calls = record { options = options; sessions = sessions; calls = calls; turns = [] }
+
+-- a session's call whose printed line is read wherever the limits leave room
+pub record IsPrintable (sessions session : ℕ) (call : Call) : Type 0 where
+  pub line : List ℕ
+  pub printed : printed_call session call ≡ line ++ 10 ∷ []
+  pub in_line : list_all is_line_byte line ≡ true
+  pub short : payload_length call ≤ BUFFER_BYTES
+  pub right : (options : Options) (calls : List (List Call)) → passes_call_limit (script_with options sessions calls) (payload_length call) ≡ false → reason_of (reads.Sessions (script_with options sessions calls)) (record { text = line; ended = true }) ≡ None
+  pub after : (options : Options) (calls : List (List Call)) → after_line (reads.Sessions (script_with options sessions calls)) line ≡ reads.Sessions (with_call (script_with options sessions calls) session call)
+
+-- a call that was read
+pub record IsCallRead (options : Options) (sessions : ℕ) (calls : List (List Call)) (text : List ℕ) : Type 0 where
   pub session : ℕ
   pub call : Call
   pub low : 1 ≤ session
-  pub high : session ≤ parts.sessions
-  pub after : after_line (reads.Sessions parts) text ≡ reads.Sessions (with_call parts session call)
-  pub line : List ℕ
-  pub printed : printed_call session call ≡ line ++ 10 ∷ []
-  pub right : reason_of (reads.Sessions parts) (record { text = line; ended = true }) ≡ None
-  pub again : after_line (reads.Sessions parts) line ≡ reads.Sessions (with_call parts session call)
-  pub in_line : list_all is_line_byte line ≡ true
-  pub size : length line ≤ length text
+  pub high : session ≤ sessions
+  pub room : passes_call_limit (script_with options sessions calls) (payload_length call) ≡ false
+  pub after : after_line (reads.Sessions (script_with options sessions calls)) text ≡ reads.Sessions (with_call (script_with options sessions calls) session call)
+  pub again : IsPrintable sessions session call
+  pub size : length again.line ≤ length text
 
-small_payload : (parts : ScriptParts) (bytes : ℕ) → passes_call_limit parts bytes ≡ false → bytes ≤ BUFFER_BYTES
+pub small_payload : (parts : ScriptParts) (bytes : ℕ) → passes_call_limit parts bytes ≡ false → bytes ≤ BUFFER_BYTES
 small_payload parts bytes is = not_less BUFFER_BYTES bytes (neither-first (nat_lt BUFFER_BYTES bytes) _ (neither-first _ _ is))
 
-same_place : (parts : ScriptParts) (text line : List ℕ) → first_word line ≡ first_word text → is_misplaced (reads.Sessions parts) line ≡ is_misplaced (reads.Sessions parts) text
+same_place : (sessions : ℕ) (options others : Options) (calls more : List (List Call)) (text line : List ℕ) → first_word line ≡ first_word text → is_misplaced (reads.Sessions (script_with others sessions more)) line ≡ is_misplaced (reads.Sessions (script_with options sessions calls)) text
 unfolding is_misplaced
-same_place parts text line first = ap (λ (w : List ℕ). not (is_word (codes "schedule") w || not (has_schedule parts) && ends_with_colon w)) first
+same_place sessions options others calls more text line first = ap (λ (w : List ℕ). not (is_word (codes "schedule") w || true && ends_with_colon w)) first
 
 by_session : (parts : ScriptParts) (text : List ℕ) → is_word (codes "schedule") (first_word text) ≡ false → names_no_session (reads.Sessions parts) text ≡ is_none (session_of parts.sessions (first_word text))
 unfolding names_no_session
@@ -155,50 +166,39 @@ limit_of_call : (parts : ScriptParts) (session : ℕ) (form : CallForm) → form
 unfolding form_passes_limit
 limit_of_call parts session form = refl
 
-right_again : (parts : ScriptParts) (text : List ℕ) (session : ℕ) (form : CallForm) (made : IsPrintedLine parts.sessions text session form)
+right_again : (options others : Options) (sessions : ℕ) (calls more : List (List Call)) (text : List ℕ) (session : ℕ) (form : CallForm) (made : IsPrintedLine sessions text session form)
     → is_word (codes "schedule") (first_word text) ≡ false → list_all is_line_byte text ≡ true
-    → is_misplaced (reads.Sessions parts) text ≡ false → names_no_session (reads.Sessions parts) text ≡ false
-    → is_later (CallLine session form) ≡ false → form_passes_limit (reads.Sessions parts) (CallLine session form) ≡ false
-    → IsRight (reads.Sessions parts) (record { text = made.line; ended = true })
-right_again parts text session form made none in-text place named played limit =
+    → is_misplaced (reads.Sessions (script_with options sessions calls)) text ≡ false → names_no_session (reads.Sessions (script_with options sessions calls)) text ≡ false
+    → is_later (CallLine session form) ≡ false → passes_call_limit (script_with others sessions more) (payload_length (spelled_call form)) ≡ false
+    → IsRight (reads.Sessions (script_with others sessions more)) (record { text = made.line; ended = true })
+right_again options others sessions calls more text session form made none in-text place named played limit =
+    let before = script_with options sessions calls in
+    let parts = script_with others sessions more in
     let none-here : is_word (codes "schedule") (first_word made.line) ≡ false = ap (is_word (codes "schedule")) made.first ∙ none in
     let read : form_of (reads.Sessions parts) made.line ≡ Some (CallLine session made.next) = form_by_call parts made.line none-here ∙ made.read in
     let reading = reads.Sessions parts in
     record {
       bytes = right_bytes made.line (made.in_line in-text);
-      place = same_place parts text made.line made.first ∙ place;
-      session = by_session parts made.line none-here ∙ ap (λ (w : List ℕ). is_none (session_of parts.sessions w)) made.first ∙ sym (by_session parts text none) ∙ named;
+      place = same_place sessions options others calls more text made.line made.first ∙ place;
+      session = by_session parts made.line none-here ∙ ap (λ (w : List ℕ). is_none (session_of sessions w)) made.first ∙ sym (by_session before text none) ∙ named;
       form = ap (λ (o : Option LineForm). is_none o) read;
       played = ap (λ (o : Option LineForm). option_map_or is_later o false) read ∙ later_of_call session made.next ∙ ap not made.kind ∙ sym (later_of_call session form) ∙ played;
-      limit = ap (λ (o : Option LineForm). option_map_or (form_passes_limit reading) o false) read ∙ limit_of_call parts session made.next ∙ ap (λ (c : Call). passes_call_limit parts (payload_length c)) made.same ∙ sym (limit_of_call parts session form) ∙ limit;
+      limit = ap (λ (o : Option LineForm). option_map_or (form_passes_limit reading) o false) read ∙ limit_of_call parts session made.next ∙ ap (λ (c : Call). passes_call_limit parts (payload_length c)) made.same ∙ limit;
     }
 
-with_made : (parts : ScriptParts) (text : List ℕ) (session : ℕ) (form : CallForm) (made : IsPrintedLine parts.sessions text session form)
-    → is_word (codes "schedule") (first_word text) ≡ false → call_line parts.sessions text ≡ Some (CallLine session form) → list_all is_line_byte text ≡ true
-    → IsRight (reads.Sessions parts) (record { text = made.line; ended = true })
-    → after_line (reads.Sessions parts) text ≡ after_form (reads.Sessions parts) (CallLine session form)
-    → IsCallRead parts text
-with_made parts text session form made none read in-text right after =
-    let named = session_word parts.sessions (call_line_parts parts.sessions text session form read).word session (call_line_parts parts.sessions text session form read).is_session in
-    let none-here : is_word (codes "schedule") (first_word made.line) ≡ false = ap (is_word (codes "schedule")) made.first ∙ none in
-    let read-again : form_of (reads.Sessions parts) made.line ≡ Some (CallLine session made.next) = form_by_call parts made.line none-here ∙ made.read in
+after_again : (options : Options) (sessions : ℕ) (calls : List (List Call)) (text : List ℕ) (session : ℕ) (form : CallForm) (made : IsPrintedLine sessions text session form)
+    → is_word (codes "schedule") (first_word text) ≡ false
+    → after_line (reads.Sessions (script_with options sessions calls)) made.line ≡ reads.Sessions (with_call (script_with options sessions calls) session (spelled_call form))
+after_again options sessions calls text session form made none =
+    let parts = script_with options sessions calls in
     let reading = reads.Sessions parts in
-    record {
-      session = session;
-      call = spelled_call form;
-      low = named.low;
-      high = named.high;
-      after = after;
-      line = made.line;
-      printed = made.printed;
-      right = no_reason reading (record { text = made.line; ended = true }) right;
-      again = ap (λ (o : Option LineForm). option_map_or (after_form reading) o reading) read-again ∙ ap (λ (c : Call). reads.Sessions (with_call parts session c)) made.same;
-      in_line = made.in_line in-text;
-      size = made.size;
-    }
+    let none-here : is_word (codes "schedule") (first_word made.line) ≡ false = ap (is_word (codes "schedule")) made.first ∙ none in
+    let read : form_of reading made.line ≡ Some (CallLine session made.next) = form_by_call parts made.line none-here ∙ made.read in
+    ap (λ (o : Option LineForm). option_map_or (after_form reading) o reading) read ∙ ap (λ (c : Call). reads.Sessions (with_call parts session c)) made.same
 
-pub call_read : (parts : ScriptParts) (line : Line) → reason_of (reads.Sessions parts) line ≡ None → IsCallRead parts line.text
-call_read parts line e =
+pub call_read : (options : Options) (sessions : ℕ) (calls : List (List Call)) (line : Line) → reason_of (reads.Sessions (script_with options sessions calls)) line ≡ None → IsCallRead options sessions calls line.text
+call_read options sessions calls line e =
+    let parts = script_with options sessions calls in
     let right = is_right (reads.Sessions parts) line e in
     let form = has_form (reads.Sessions parts) line right in
     let played = played_call parts line.text form.form form.is form.played in
@@ -207,7 +207,27 @@ call_read parts line e =
     let in-text = (line_parts line right.bytes).1 in
     let is-played : is_later (CallLine session call) ≡ false = ap is_later (sym played.call.is) ∙ form.played in
     let limit : form_passes_limit (reads.Sessions parts) (CallLine session call) ≡ false = ap (form_passes_limit (reads.Sessions parts)) (sym played.call.is) ∙ form.limit in
-    let made = printed_line parts.sessions line.text session call played.call.read (small_payload parts (payload_length (spelled_call call)) (sym (limit_of_call parts session call) ∙ limit)) in
-    with_made parts line.text session call made played.no_schedule played.call.read in-text
-    (right_again parts line.text session call made played.no_schedule in-text right.place right.session is-played limit)
-    (form.after ∙ ap (after_form (reads.Sessions parts)) played.call.is)
+    let room = sym (limit_of_call parts session call) ∙ limit in
+    let short = small_payload parts (payload_length (spelled_call call)) room in
+    let made = printed_line sessions line.text session call played.call.read short in
+    let found = call_line_parts sessions line.text session call played.call.read in
+    let named = session_word sessions found.word session found.is_session in
+    record {
+      session = session;
+      call = spelled_call call;
+      low = named.low;
+      high = named.high;
+      room = room;
+      after = form.after ∙ ap (after_form (reads.Sessions parts)) played.call.is;
+      again = record {
+        line = made.line;
+        printed = made.printed;
+        in_line = made.in_line in-text;
+        short = short;
+        right = λ others more left.
+            no_reason (reads.Sessions (script_with others sessions more)) (record { text = made.line; ended = true })
+            (right_again options others sessions calls more line.text session call made played.no_schedule in-text right.place right.session is-played left);
+        after = λ others more. after_again others sessions more line.text session call made played.no_schedule;
+      };
+      size = made.size;
+    }

@@ -37,7 +37,7 @@ IsBehind form word text (WithPayload call payload) = IsPayloadBehind form word t
 abbrev pub AreBehind : List ℕ → FormBehind → Type 0
 AreBehind word form = (text : List ℕ) (call : CallForm) → form text ≡ Some call → IsBehind form word text call
 
-same_item : {X : Type 0} (x y : X) → Some x ≡ Some y → x ≡ y
+pub same_item : {X : Type 0} (x y : X) → Some x ≡ Some y → x ≡ y
 same_item x y e = cc
 
 -- a plain call's text

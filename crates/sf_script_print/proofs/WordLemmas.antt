@@ -12,7 +12,7 @@ use Rattle.sf_types.proofs.NumberLemmas.{same_number}
 use Rattle.sf_script_calls.specs.Words.{is_space, has_space, first_word, word_at, is_word}
 
 -- a byte of a word
-abbrev is_word_byte : ℕ → Bool
+abbrev pub is_word_byte : ℕ → Bool
 is_word_byte byte = not (is_space byte)
 
 -- a space behind a word is the first
@@ -41,10 +41,10 @@ pub record IsCut (text word rest : List ℕ) : Type 0 where
   pub again : (other : List ℕ) → word_at (word ++ 32 ∷ other) ≡ Some (word, other)
   pub first_again : (other : List ℕ) → first_word (word ++ 32 ∷ other) ≡ word
 
-first_of_cut : (word other : List ℕ) → list_all is_word_byte word ≡ true → first_word (word ++ 32 ∷ other) ≡ word
+pub first_of_cut : (word other : List ℕ) → list_all is_word_byte word ≡ true → first_word (word ++ 32 ∷ other) ≡ word
 first_of_cut word other is = rw (space_after word other is) (take-append_seam word (32 ∷ other))
 
-cut_again : (word other : List ℕ) → list_all is_word_byte word ≡ true → word_at (word ++ 32 ∷ other) ≡ Some (word, other)
+pub cut_again : (word other : List ℕ) → list_all is_word_byte word ≡ true → word_at (word ++ 32 ∷ other) ≡ Some (word, other)
 unfolding word_at
 cut_again word other is =
     let at = space_after word other is in
