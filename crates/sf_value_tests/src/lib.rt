@@ -8,6 +8,8 @@ mod edits;
 #[cfg(test)]
 mod index;
 #[cfg(test)]
+mod locators;
+#[cfg(test)]
 mod names;
 #[cfg(test)]
 mod piece_tree;
@@ -17,3 +19,7 @@ mod retention;
 mod room_map;
 #[cfg(test)]
 mod row_locks;
+#[cfg(test)]
+mod row_versions;
+#[cfg(test)]
+mod sorted_map;
