@@ -10,6 +10,11 @@ pub mod PayloadSizeLemmas
 pub mod CallLineLemmas
 pub mod TextLineLemmas
 pub mod RightLineLemmas
+pub mod LinesReadLemmas
+pub mod ScheduleReadLemmas
+pub mod OptionReadLemmas
+pub mod OptionAgainLemmas
+pub mod LaterLemmas
 pub mod PrintedScriptLemmas
 pub mod SessionLemmas
 pub mod ScheduleLemmas

@@ -33,7 +33,7 @@ text_byte_low byte is = grind (arith, nat_tests)
 text_byte_in_line : (byte : ℕ) → is_text_byte byte ≡ true → is_line_byte byte ≡ true
 text_byte_in_line byte is = grind (arith, nat_tests)
 
-digit_in_line : (byte : ℕ) → is_digit byte ≡ true → is_line_byte byte ≡ true
+pub digit_in_line : (byte : ℕ) → is_digit byte ≡ true → is_line_byte byte ≡ true
 digit_in_line byte is = grind (arith, nat_tests)
 
 copies_low : (number byte : ℕ) → is_byte byte ≡ true → list_all is_byte (replicate number byte) ≡ true

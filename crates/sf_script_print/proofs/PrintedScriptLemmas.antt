@@ -1,42 +1,63 @@
 -- A printed script is read as the script that it was made of.
-use Rattle.std.proofs.Common.{◌≡◌, ℕ, ◌+◌, ◌≤◌, Bool, true, false, cond, List, [], ◌∷◌, ◌++◌, length, replicate, Some, None, Result, Ok, refl, sym, ap, ◌∙◌, arith}
-use Rattle.std.specs.Prelude.{codes, nat_lt, ◌==◌}
+use Rattle.std.proofs.Common.{◌≡◌, ℕ, zero, suc, ◌+◌, ◌^◌, ◌<◌, ◌≤◌, Bool, true, false, not, ◌&&◌, ◌||◌, cond, List, [], ◌∷◌, ◌++◌, length, replicate, Option, Some, Result, Ok, refl, sym, ap, ◌∙◌, arith}
+use Rattle.std.specs.Prelude.{codes, nat_le, nat_lt, is_none}
 use Rattle.std.specs.Fmt.{decimal}
-use Rattle.std.proofs.lemmas.Bool.{le-ltb}
-use Rattle.std.proofs.lemmas.Fmt.{decimal_digit}
-use Rattle.std.proofs.lemmas.List.{append-nil}
+use Rattle.std.specs.Option.{option_map_or}
+use Rattle.std.proofs.lemmas.Bool.{and_parts, le-leb, le-ltb}
+use Rattle.std.proofs.lemmas.List.{append-nil, length-append, length-replicate}
 use Rattle.std.proofs.lemmas.Option.{cond_some}
 use Rattle.sf_types.specs.Limits.{standard_options}
+use Rattle.sf_types.specs.declared.limits.TheConstants.{STORE_SESSIONS}
 use Rattle.sf_types.specs.declared.call.Call.{Call}
+use Rattle.sf_types.specs.declared.options.Options.{Options}
 use Rattle.sf_types.proofs.BoolLemmas.{not_not}
-use Rattle.sf_types.proofs.NumberLemmas.{same_number, not_less}
+use Rattle.sf_types.proofs.NumberLemmas.{at_most, not_less}
 use Rattle.sf_script.specs.declared.fault.Reason.TheVariants.{Size}
 use Rattle.sf_script.specs.declared.fault.ScriptFault.{ScriptFault}
 use Rattle.sf_script.specs.declared.limits.TheConstants.{SCRIPT_BYTES}
 use Rattle.sf_script.specs.declared.option_line.OptionLine.{OptionLine}
 use Rattle.sf_script.specs.declared.reading.Reading.{Reading}
 use Rattle.sf_script.specs.declared.reading.Reading.TheVariants as reads
-use Rattle.sf_script.specs.LineForms.{LineForm, HeaderLine, SetsOption, SessionsLine, header_line, sessions_line, option_line}
+use Rattle.sf_script.specs.LineForms.{LineForm, HeaderLine, SetsOption, SessionsLine, form_of, header_line, sessions_line, option_line}
 use Rattle.sf_script.specs.Lines.{Line, lines_of}
-use Rattle.sf_script.specs.OptionLines.{option_of}
+use Rattle.sf_script.specs.OptionLines.{OptionParts, option_of, option_rank, is_option_in_range, rank_of}
 use Rattle.sf_script.specs.Parts.{ScriptParts}
-use Rattle.sf_script.specs.Provisional.Lines.{is_later}
-use Rattle.sf_script.specs.Reasons.{no_options, after_form, after_line, reason_of}
-use Rattle.sf_script.specs.Scripts.{fault_at, script_from, script_of}
+use Rattle.sf_script.specs.Reasons.{is_misplaced, names_no_session, form_passes_limit, new_script, no_options, with_option_read, after_form, after_line}
+use Rattle.sf_script.specs.Scripts.{fault_at, script_at_end}
 use Rattle.sf_script_calls.specs.Numbers.{number_of}
 use Rattle.sf_script_calls.specs.Reads.{◌>>=◌}
-use Rattle.sf_script_calls.specs.Words.{word_at, is_word}
+use Rattle.sf_script_calls.specs.Words.{first_word, word_at, is_word}
+use Rattle.sf_script_print.specs.PrintedCalls.{spaced}
 use Rattle.sf_script_print.specs.Printing.{printed, printed_sessions, printed_options, printed_turns}
-use Rattle.sf_script_print.proofs.WordLemmas.{cut_of, spelled}
+use Rattle.sf_script_print.specs.ScriptsBy.{IsLater, script_from_by, script_by}
+use Rattle.sf_script_print.proofs.LinesReadLemmas.{right_script, line_read, lines_read, none_read}
 use Rattle.sf_script_print.proofs.NumberTextLemmas.{number_text}
+use Rattle.sf_script_print.proofs.OptionAgainLemmas.{IsReadFrom, options_again}
+use Rattle.sf_script_print.proofs.OptionLineLemmas.{sessions_read as sessions_line_read}
+use Rattle.sf_script_print.proofs.OptionReadLemmas.{option_text, text_of_option, later_rank, CanSet, AreSet, AreUnset, none_set, all_unset, set_next, numbered_in_line}
 use Rattle.sf_script_print.proofs.PayloadTextLemmas.{read_field}
-use Rattle.sf_script_print.proofs.SessionLemmas.{right_script, line_read, lines_read, none_read, AreWellRead, AreLinesRead, calls_read, sessions_read}
-use Rattle.sf_script_print.proofs.TextLineLemmas.{line_size, lines_size, ended_size, size_of_lines, lines_behind}
-use Rattle.sf_script_print.proofs.RightLineLemmas.{script_with, is_right, line_parts, has_form}
+use Rattle.sf_script_print.proofs.RightLineLemmas.{AreAlike, IsRight, no_reason, line_parts, right_bytes, has_form, script_with}
+use Rattle.sf_script_print.proofs.ScheduleReadLemmas.{scheduled, schedule_again}
+use Rattle.sf_script_print.proofs.SessionLemmas.{AllSessions, AreWellRead, AreLinesRead, calls_read, no_counts, no_payloads, sessions_read}
+use Rattle.sf_script_print.proofs.TextLineLemmas.{lines_size, ended_size, size_of_lines, six_parts}
+use Rattle.sf_script_print.proofs.WordLemmas.{cut_of, first_of_cut, spelled}
 
--- a script of one session without calls
-no_calls : AreWellRead 1 ([] ∷ [])
-no_calls = record { all = (tt, tt); count = refl; few = omega arith; small = omega arith }
+-- a script of sessions without calls
+all_empty : (later : IsLater) (sessions session number : ℕ) → AllSessions later sessions session (replicate number [])
+all_empty later sessions session zero = tt
+all_empty later sessions session (suc number) = (tt, all_empty later sessions (session + 1) number)
+
+no_calls : (later : IsLater) (sessions : ℕ) → AreWellRead later sessions (replicate sessions [])
+no_calls later sessions = record {
+  all = all_empty later sessions 1 sessions;
+  count = length-replicate sessions [];
+  few = omega (arith, no_counts sessions);
+  small = omega (arith, no_payloads sessions);
+}
+
+no_calls_size : (session number : ℕ) → length (printed_sessions session (replicate number [])) ≡ 0
+no_calls_size session zero = refl
+no_calls_size session (suc number) = no_calls_size (session + 1) number
 
 -- the header
 abbrev header : List ℕ
@@ -48,143 +69,243 @@ header_is text form e =
     let p = cond_some (is_word (codes "securefiles 1") text) HeaderLine form e in
     (spelled (codes "securefiles 1") text p.0, p.1)
 
--- the sessions line, which today is that of one session
-abbrev sessions : List ℕ
-sessions = codes "sessions 1"
+-- a sessions line
+abbrev sessions_text : ℕ → List ℕ
+sessions_text number = codes "sessions" ++ 32 ∷ decimal number
 
-option_later : (option : OptionLine) → is_later (SetsOption option) ≡ true
-unfolding is_later
-option_later option = refl
+record IsSessionsForm (text : List ℕ) (form : LineForm) : Type 0 where
+  number : ℕ
+  is : form ≡ SessionsLine number
+  text_is : text ≡ sessions_text number
 
-one_played : (number : ℕ) → is_later (SessionsLine number) ≡ false → number ≡ 1
-unfolding is_later
-one_played number is = same_number number 1 (not_not (number == 1) is)
+record IsOptionForm (text : List ℕ) (form : LineForm) : Type 0 where
+  option : OptionLine
+  is : form ≡ SetsOption option
+  text_is : text ≡ option_text option
 
-sessions_text : (text word rest : List ℕ) (number : ℕ) → word_at text ≡ Some (word, rest) → is_word (codes "sessions") word ≡ true → number_of rest ≡ Some number → number ≡ 1 → text ≡ sessions
-sessions_text text word rest number cut named read one =
-    (cut_of text word rest cut).whole
-    ∙ ap (λ (w : List ℕ). w ++ 32 ∷ rest) (spelled (codes "sessions") word named)
-    ∙ ap (λ (r : List ℕ). codes "sessions" ++ 32 ∷ r) ((number_text rest number read).printed ∙ ap decimal one ∙ decimal_digit 1 (omega arith))
+-- a line between the header and the calls
+data HeadForm (text : List ℕ) (form : LineForm) : Type 0 where
+  OfSessions : IsSessionsForm text form → HeadForm text form
+  OfOption : IsOptionForm text form → HeadForm text form
 
-sessions_form : (text word rest : List ℕ) (form : LineForm) (named : Bool) → word_at text ≡ Some (word, rest) → is_word (codes "sessions") word ≡ named
-    → cond named (sessions_line rest) (option_of word rest >>= λ option. Some (SetsOption option)) ≡ Some form → is_later form ≡ false → (text ≡ sessions) × (SessionsLine 1 ≡ form)
-sessions_form text word rest form true cut named e played =
-    let n = read_field (number_of rest) (λ number. Some (SessionsLine number)) form e in
-    let same : SessionsLine n.item ≡ form = cc in
-    let one = one_played n.item (ap is_later same ∙ played) in
-    (sessions_text text word rest n.item cut named n.is one, ap SessionsLine (sym one) ∙ same)
-sessions_form text word rest form false cut named e played =
-    let o = read_field (option_of word rest) (λ option. Some (SetsOption option)) form e in
-    let same : SetsOption o.item ≡ form = cc in
-    let later : is_later form ≡ true = ap is_later (sym same) ∙ option_later o.item in
-    absurd cc
-
-sessions_is : (text : List ℕ) (form : LineForm) → option_line text ≡ Some form → is_later form ≡ false → (text ≡ sessions) × (SessionsLine 1 ≡ form)
+head_form : (text : List ℕ) (form : LineForm) → option_line text ≡ Some form → HeadForm text form
 unfolding option_line
-sessions_is text form e played =
+head_form text form e =
     let a = read_field (word_at text) (λ word. cond (is_word (codes "sessions") word.0) (sessions_line word.1) (option_of word.0 word.1 >>= λ option. Some (SetsOption option))) form e in
-    sessions_form text a.item.0 a.item.1 form (is_word (codes "sessions") a.item.0) a.is refl a.others played
+    by_word a.item.0 a.item.1 a.is (is_word (codes "sessions") a.item.0) refl a.others
+  where
+    by_word : (word rest : List ℕ) → word_at text ≡ Some (word, rest) → (test : Bool) → is_word (codes "sessions") word ≡ test
+        → cond test (sessions_line rest) (option_of word rest >>= λ option. Some (SetsOption option)) ≡ Some form → HeadForm text form
+    by_word word rest cut true named is =
+        let n = read_field (number_of rest) (λ number. Some (SessionsLine number)) form is in
+        let same : form ≡ SessionsLine n.item = cc in
+        OfSessions (record {
+          number = n.item;
+          is = same;
+          text_is = (cut_of text word rest cut).whole
+              ∙ ap (λ (w : List ℕ). w ++ 32 ∷ rest) (spelled (codes "sessions") word named)
+              ∙ ap (λ (r : List ℕ). codes "sessions" ++ 32 ∷ r) (number_text rest n.item n.is).printed;
+        })
+    by_word word rest cut false named is =
+        let o = read_field (option_of word rest) (λ option. Some (SetsOption option)) form is in
+        let same : form ≡ SetsOption o.item = cc in
+        OfOption (record { option = o.item; is = same; text_is = (cut_of text word rest cut).whole ∙ text_of_option word rest o.item o.is })
 
--- a printed script
-printed_is : (calls : List (List Call)) → printed (script_with standard_options 1 calls) ≡ header ++ 10 ∷ (sessions ++ 10 ∷ printed_sessions 1 calls)
-unfolding printed printed_options printed_turns
-printed_is calls =
-    rw (decimal_digit 1 (omega arith)) (ap (λ (t : List ℕ). header ++ 10 ∷ (sessions ++ 10 ∷ t)) (append-nil (printed_sessions 1 calls)))
+-- a number of sessions that a script may have, by a line that isn't later
+record IsSessions (later : IsLater) (sessions : ℕ) : Type 0 where
+  low : 1 ≤ sessions
+  high : sessions ≤ STORE_SESSIONS
+  played : later (SessionsLine sessions) ≡ false
+
+sessions_limit : (read : OptionParts) (number : ℕ) → form_passes_limit (reads.Options read) (SessionsLine number) ≡ not (nat_le 1 number && nat_le number STORE_SESSIONS)
+unfolding form_passes_limit
+sessions_limit read number = refl
+
+option_limit : (read : OptionParts) (option : OptionLine) → form_passes_limit (reads.Options read) (SetsOption option) ≡ not (is_option_in_range option)
+unfolding form_passes_limit
+option_limit read option = refl
+
+in_sessions : (later : IsLater) (read : OptionParts) (number : ℕ) → later (SessionsLine number) ≡ false → form_passes_limit (reads.Options read) (SessionsLine number) ≡ false → IsSessions later number
+in_sessions later read number played limit =
+    let p = and_parts (nat_le 1 number) (nat_le number STORE_SESSIONS) (not_not (nat_le 1 number && nat_le number STORE_SESSIONS) (sym (sessions_limit read number) ∙ limit)) in
+    record { low = at_most 1 number p.0; high = at_most number STORE_SESSIONS p.1; played = played }
+
+-- the lines up to the sessions line, and those behind it
+record IsHeadRead (later : IsLater) (before : Options) (lines : List Line) (script : ScriptParts) : Type 0 where
+  options : Options
+  set : AreSet later options
+  sessions : ℕ
+  are : IsSessions later sessions
+  rest : List Line
+  number : ℕ
+  read : script_from_by later number (reads.Sessions (new_script options sessions)) rest ≡ Ok script
+  size : length (printed_options options) + length (sessions_text sessions) + 1 + lines_size rest ≤ length (printed_options before) + lines_size lines
+
+head_read : (later : IsLater) (options : Options) (rank : ℕ) (lines : List Line) (script : ScriptParts) (number : ℕ) → AreSet later options → AreUnset options rank
+    → script_from_by later number (reads.Options (record { options = options; rank = rank })) lines ≡ Ok script → IsHeadRead later options lines script
+head_read later options rank [] script number set unset e =
+    let short : script_at_end number (reads.Options (record { options = options; rank = rank })) ≡ Ok script = sym (none_read later number (reads.Options (record { options = options; rank = rank }))) ∙ e in
+    absurd cc
+head_read later options rank (line ∷ lines) script number set unset e =
+    let read : OptionParts = record { options = options; rank = rank } in
+    let reading = reads.Options read in
+    let p = line_read later number reading line lines script e in
+    let form = has_form later reading line p.0 in
+    by_form form.form (head_form line.text form.form form.is) p.0 form.played form.limit form.after p.1
+    (λ next place set unset others. head_read later next place lines script (number + 1) set unset others)
+  where
+    by_form : (form : LineForm) → HeadForm line.text form → IsRight later (reads.Options (record { options = options; rank = rank })) line → later form ≡ false
+        → form_passes_limit (reads.Options (record { options = options; rank = rank })) form ≡ false
+        → after_line (reads.Options (record { options = options; rank = rank })) line.text ≡ after_form (reads.Options (record { options = options; rank = rank })) form
+        → script_from_by later (number + 1) (after_line (reads.Options (record { options = options; rank = rank })) line.text) lines ≡ Ok script
+        → ((next : Options) (place : ℕ) → AreSet later next → AreUnset next place → script_from_by later (number + 1) (reads.Options (record { options = next; rank = place })) lines ≡ Ok script → IsHeadRead later next lines script)
+        → IsHeadRead later options (line ∷ lines) script
+    by_form form (OfSessions is) right played limit after others behind =
+        let read : OptionParts = record { options = options; rank = rank } in
+        let next : after_line (reads.Options read) line.text ≡ reads.Sessions (new_script options is.number) = after ∙ ap (after_form (reads.Options read)) is.is in
+        record {
+          options = options;
+          set = set;
+          sessions = is.number;
+          are = in_sessions later read is.number (ap later (sym is.is) ∙ played) (ap (form_passes_limit (reads.Options read)) (sym is.is) ∙ limit);
+          rest = lines;
+          number = number + 1;
+          read = ap (λ (r : Reading). script_from_by later (number + 1) r lines) (sym next) ∙ others;
+          size = omega (arith, ended_size line (line_parts line right.bytes).0, ap length is.text_is);
+        }
+    by_form form (OfOption is) right played limit after others behind =
+        let read : OptionParts = record { options = options; rank = rank } in
+        let next : after_line (reads.Options read) line.text ≡ reads.Options (with_option_read read is.option) = after ∙ ap (after_form (reads.Options read)) is.is in
+        let can : CanSet later is.option = record {
+          range = not_not (is_option_in_range is.option) (sym (option_limit read is.option) ∙ ap (form_passes_limit (reads.Options read)) (sym is.is) ∙ limit);
+          played = ap later (sym is.is) ∙ played;
+        } in
+        let more = set_next later options rank is.option set unset (later_rank read line.text is.option is.text_is right.place) can in
+        let rest = behind (with_option_read read is.option).options (rank_of is.option) more.set more.unset
+        (ap (λ (r : Reading). script_from_by later (number + 1) r lines) (sym next) ∙ others) in
+        record {
+          options = rest.options;
+          set = rest.set;
+          sessions = rest.sessions;
+          are = rest.are;
+          rest = rest.rest;
+          number = rest.number;
+          read = rest.read;
+          size = omega (arith, rest.size, more.size, ended_size line (line_parts line right.bytes).0, ap length is.text_is);
+        }
+
+-- the standard options have no lines
+no_options_size : length (printed_options standard_options) ≡ 0
+unfolding printed_options
+no_options_size = refl
+
+-- a printed sessions line isn't refused
+sessions_place : (read : OptionParts) (text : List ℕ) → first_word text ≡ codes "sessions" → is_misplaced (reads.Options read) text ≡ false
+unfolding is_misplaced is_word
+sessions_place read text first = rw first (by_rank (nat_lt read.rank (option_rank (codes "sessions"))))
+  where
+    by_rank : (test : Bool) → not (test || true) ≡ false
+    by_rank true = refl
+    by_rank false = refl
+
+sessions_again : (later : IsLater) (options : Options) (rank sessions : ℕ) (rest : List ℕ) (script : ScriptParts) (number : ℕ) → IsSessions later sessions
+    → ((n : ℕ) → script_from_by later n (reads.Sessions (new_script options sessions)) (lines_of rest) ≡ Ok script)
+    → script_from_by later number (reads.Options (record { options = options; rank = rank })) (lines_of (sessions_text sessions ++ 10 ∷ rest)) ≡ Ok script
+unfolding names_no_session
+sessions_again later options rank sessions rest script number are others =
+    let read : OptionParts = record { options = options; rank = rank } in
+    let reading = reads.Options read in
+    let text = sessions_text sessions in
+    let small : sessions < 2 ^ 64 = omega (arith, are.high) in
+    let in-line = numbered_in_line (codes "sessions") sessions refl small in
+    let form : form_of reading text ≡ Some (SessionsLine sessions) = sessions_line_read sessions are.low small in
+    let first : first_word text ≡ codes "sessions" = first_of_cut (codes "sessions") (decimal sessions) refl in
+    let right : IsRight later reading (record { text = text; ended = true }) = record {
+      bytes = right_bytes text in-line;
+      place = sessions_place read text first;
+      session = refl;
+      form = ap (λ (o : Option LineForm). is_none o) form;
+      played = ap (λ (o : Option LineForm). option_map_or later o false) form ∙ are.played;
+      limit = ap (λ (o : Option LineForm). option_map_or (form_passes_limit reading) o false) form ∙ sessions_limit read sessions ∙ rw (le-leb 1 sessions are.low, le-leb sessions STORE_SESSIONS are.high) refl;
+    } in
+    let after : after_line reading text ≡ reads.Sessions (new_script options sessions) = ap (λ (o : Option LineForm). option_map_or (after_form reading) o reading) form in
+    lines_read later number reading (reads.Sessions (new_script options sessions)) text rest script in-line (no_reason later reading (record { text = text; ended = true }) right) after (others (number + 1))
+
+-- the text of a script
+text_of : (script : ScriptParts) → printed script ≡ header ++ 10 ∷ (printed_options script.options ++ (sessions_text script.sessions ++ 10 ∷ (printed_sessions 1 script.calls ++ printed_turns script.turns)))
+unfolding printed
+text_of script =
+    let options = printed_options script.options in
+    let calls = printed_sessions 1 script.calls in
+    let turns = printed_turns script.turns in
+    ap (λ (t : List ℕ). header ++ (10 ∷ t))
+    (six_parts options (codes "sessions") (spaced (decimal script.sessions ∷ [])) (10 ∷ []) calls turns
+    ∙ ap (λ (t : List ℕ). options ++ (codes "sessions" ++ (32 ∷ (t ++ (10 ∷ (calls ++ turns)))))) (append-nil (decimal script.sessions)))
 
 -- what is proved of a script that was read
-pub record IsPrinted (bytes : List ℕ) (script : ScriptParts) : Type 0 where
-  pub again : script_of (printed script) ≡ Ok script
+pub record IsPrinted (later : IsLater) (bytes : List ℕ) (script : ScriptParts) : Type 0 where
+  pub again : script_by later (printed script) ≡ Ok script
   pub no_longer : length (printed script) ≤ length bytes
 
-line_is : (line : Line) (text : List ℕ) → line.text ≡ text → line.ended ≡ true → line ≡ record { text = text; ended = true }
-line_is line text same ended = ap (λ (t : List ℕ). record { text = t; ended = line.ended }) same ∙ ap (λ (e : Bool). record { text = text; ended = e }) ended
+-- the lines of a script, read once more
+all_again : (later : IsLater) (options : Options) (sessions : ℕ) (script : ScriptParts) (before : List (List Call)) (lines : List Line) → AreSet later options → IsSessions later sessions
+    → (read : AreLinesRead later options sessions before lines script) → (number : ℕ)
+    → script_from_by later number (reads.Options no_options) (lines_of (printed_options options ++ (sessions_text sessions ++ 10 ∷ (printed_sessions 1 read.calls ++ printed_turns read.turns)))) ≡ Ok script
+all_again later options sessions script before lines set are read number =
+    let calls = printed_sessions 1 read.calls ++ printed_turns read.turns in
+    let small : sessions < 2 ^ 64 = omega (arith, are.high) in
+    let turns : (n : ℕ) → script_from_by later n (reads.Sessions (script_with options sessions read.calls)) (lines_of (printed_turns read.turns)) ≡ Ok script =
+    λ n. schedule_again later options sessions read.calls read.turns n small read.schedule ∙ ap right_script read.is in
+    let empty : replicate (length read.calls) [] ≡ replicate sessions [] = ap (λ (n : ℕ). replicate n []) read.well.count in
+    let all : (n : ℕ) → script_from_by later n (reads.Sessions (new_script options sessions)) (lines_of calls) ≡ Ok script =
+    λ n. ap (λ (c : List (List Call)). script_from_by later n (reads.Sessions (script_with options sessions c)) (lines_of calls)) (sym empty)
+    ∙ sessions_read later options sessions 1 [] read.calls (printed_turns read.turns) script (omega arith) read.well.all (omega (arith, read.well.few)) (omega (arith, read.well.small)) turns n in
+    let head : IsReadFrom later options 5 (sessions_text sessions ++ 10 ∷ calls) script = λ rank n low. sessions_again later options rank sessions calls script n are all in
+    options_again later options (sessions_text sessions ++ 10 ∷ calls) script set head 0 number (omega arith)
 
--- a line whose text is known, read again
-record IsKnown (reading next : Reading) (line : Line) (text : List ℕ) : Type 0 where
-  ended : line.ended ≡ true
-  text_is : line.text ≡ text
-  right : reason_of reading (record { text = text; ended = true }) ≡ None
-  after : after_line reading line.text ≡ next
-  again : after_line reading text ≡ next
+header_right : (later : IsLater) (line : Line) → IsRight later reads.Nothing line → line.text ≡ header → IsRight later reads.Nothing (record { text = header; ended = true })
+header_right later line right same = record {
+  bytes = right_bytes header refl;
+  place = ap (is_misplaced reads.Nothing) (sym same) ∙ right.place;
+  session = ap (names_no_session reads.Nothing) (sym same) ∙ right.session;
+  form = ap (λ (t : List ℕ). is_none (form_of reads.Nothing t)) (sym same) ∙ right.form;
+  played = ap (λ (t : List ℕ). option_map_or later (form_of reads.Nothing t) false) (sym same) ∙ right.played;
+  limit = ap (λ (t : List ℕ). option_map_or (form_passes_limit reads.Nothing) (form_of reads.Nothing t) false) (sym same) ∙ right.limit;
+}
 
-known : (reading next : Reading) (line : Line) (text : List ℕ) → reason_of reading line ≡ None → line.text ≡ text → after_line reading line.text ≡ next → IsKnown reading next line text
-known reading next line text right same after =
-    let ended = (line_parts line (is_right reading line right).bytes).0 in
-    record {
-      ended = ended;
-      text_is = same;
-      right = ap (reason_of reading) (sym (line_is line text same ended)) ∙ right;
-      after = after;
-      again = ap (after_line reading) (sym same) ∙ after;
-    }
-
-known_header : (line : Line) → reason_of reads.Nothing line ≡ None → IsKnown reads.Nothing (reads.Options no_options) line header
-known_header line right =
-    let form = has_form reads.Nothing line (is_right reads.Nothing line right) in
-    let is = header_is line.text form.form form.is in
-    known reads.Nothing (reads.Options no_options) line header right is.0 (form.after ∙ ap (after_form reads.Nothing) (sym is.1))
-
-known_sessions : (line : Line) → reason_of (reads.Options no_options) line ≡ None → IsKnown (reads.Options no_options) (reads.Sessions (script_with standard_options 1 ([] ∷ []))) line sessions
-known_sessions line right =
-    let form = has_form (reads.Options no_options) line (is_right (reads.Options no_options) line right) in
-    let is = sessions_is line.text form.form form.is form.played in
-    known (reads.Options no_options) (reads.Sessions (script_with standard_options 1 ([] ∷ []))) line sessions right is.0 (form.after ∙ ap (after_form (reads.Options no_options)) (sym is.1))
-
-known_lines : (bytes : List ℕ) (first second : Line) (lines : List Line) (script : ScriptParts)
-    → length bytes ≤ SCRIPT_BYTES → lines_size (first ∷ second ∷ lines) ≤ length bytes
-    → IsKnown reads.Nothing (reads.Options no_options) first header
-    → IsKnown (reads.Options no_options) (reads.Sessions (script_with standard_options 1 ([] ∷ []))) second sessions
-    → AreLinesRead standard_options 1 ([] ∷ []) lines script
-    → IsPrinted bytes script
-unfolding script_of
-known_lines bytes first second lines script small fits head sess calls =
-    let text = header ++ 10 ∷ (sessions ++ 10 ∷ printed_sessions 1 calls.calls) in
-    let whole : printed script ≡ text = ap printed (sym calls.is) ∙ printed_is calls.calls in
-    let head_size : length first.text ≡ 13 = ap length head.text_is in
-    let sess_size : length second.text ≡ 10 = ap length sess.text_is in
-    let head_line : line_size first ≡ 14 = omega (arith, ended_size first head.ended, head_size) in
-    let sess_line : line_size second ≡ 11 = omega (arith, ended_size second sess.ended, sess_size) in
-    let text_size : length text ≡ length (printed_sessions 1 calls.calls) + 25 = omega arith in
-    let shown : length (printed script) ≡ length text = ap length whole in
-    let size : length (printed script) ≤ length bytes = omega (arith, head_line, sess_line, text_size, shown, calls.size, fits) in
-    let cut : lines_of text ≡ record { text = header; ended = true } ∷ record { text = sessions; ended = true } ∷ lines_of (printed_sessions 1 calls.calls) =
-    lines_behind header (sessions ++ 10 ∷ printed_sessions 1 calls.calls) refl ∙ ap (λ (l : List Line). record { text = header; ended = true } ∷ l) (lines_behind sessions (printed_sessions 1 calls.calls) refl) in
-    let read_from : ([] ∷ []) ≡ replicate (length calls.calls) [] = ap (λ (n : ℕ). replicate n []) (sym calls.well.count) in
-    let again : script_from 3 (reads.Sessions (script_with standard_options 1 ([] ∷ []))) (lines_of (printed_sessions 1 calls.calls)) ≡ Ok script =
-    ap (λ (c : List (List Call)). script_from 3 (reads.Sessions (script_with standard_options 1 c)) (lines_of (printed_sessions 1 calls.calls))) read_from
-    ∙ sessions_read standard_options 1 1 [] calls.calls (omega arith) calls.well.all (omega (arith, calls.well.few)) (omega (arith, calls.well.small)) 3
-    ∙ ap right_script calls.is in
-    let after_sessions = ap (λ (r : Reading). script_from 3 r (lines_of (printed_sessions 1 calls.calls))) sess.again ∙ again in
-    let at_sessions = lines_read 2 (reads.Options no_options) (record { text = sessions; ended = true }) (lines_of (printed_sessions 1 calls.calls)) script sess.right after_sessions in
-    let at_header = lines_read 1 reads.Nothing (record { text = header; ended = true }) (record { text = sessions; ended = true } ∷ lines_of (printed_sessions 1 calls.calls)) script head.right
-    (ap (λ (r : Reading). script_from 2 r (record { text = sessions; ended = true } ∷ lines_of (printed_sessions 1 calls.calls))) head.again ∙ at_sessions) in
-    let read : script_from 1 reads.Nothing (lines_of (printed script)) ≡ Ok script = ap (λ (t : List ℕ). script_from 1 reads.Nothing (lines_of t)) whole ∙ ap (script_from 1 reads.Nothing) cut ∙ at_header in
-    record {
-      again = rw (le-ltb SCRIPT_BYTES (length (printed script)) (omega (arith, size, small))) read;
-      no_longer = size;
-    }
-
-by_lines : (bytes : List ℕ) (lines : List Line) (script : ScriptParts) → length bytes ≤ SCRIPT_BYTES → lines_size lines ≤ length bytes → script_from 1 reads.Nothing lines ≡ Ok script → IsPrinted bytes script
-by_lines bytes [] script small fits e = let short = sym (none_read 1 reads.Nothing) ∙ e in absurd cc
-by_lines bytes (first ∷ []) script small fits e =
-    let one = line_read 1 reads.Nothing first [] script e in
-    let head = known_header first one.0 in
-    let short = sym (none_read 2 (reads.Options no_options)) ∙ ap (λ (r : Reading). script_from 2 r []) (sym head.after) ∙ one.1 in
+by_lines : (later : IsLater) (alike : AreAlike later) (bytes : List ℕ) (lines : List Line) (script : ScriptParts) → length bytes ≤ SCRIPT_BYTES → lines_size lines ≤ length bytes → script_from_by later 1 reads.Nothing lines ≡ Ok script → IsPrinted later bytes script
+unfolding script_by
+by_lines later alike bytes [] script small fits e =
+    let short : script_at_end 1 reads.Nothing ≡ Ok script = sym (none_read later 1 reads.Nothing) ∙ e in
     absurd cc
-by_lines bytes (first ∷ second ∷ lines) script small fits e =
-    let one = line_read 1 reads.Nothing first (second ∷ lines) script e in
-    let head = known_header first one.0 in
-    let two = line_read 2 (reads.Options no_options) second lines script (ap (λ (r : Reading). script_from 2 r (second ∷ lines)) (sym head.after) ∙ one.1) in
-    let sess = known_sessions second two.0 in
-    let calls = calls_read standard_options 1 ([] ∷ []) lines script 3 no_calls (ap (λ (r : Reading). script_from 3 r lines) (sym sess.after) ∙ two.1) in
-    known_lines bytes first second lines script small fits head sess calls
+by_lines later alike bytes (line ∷ lines) script small fits e =
+    let p = line_read later 1 reads.Nothing line lines script e in
+    let form = has_form later reads.Nothing line p.0 in
+    let is = header_is line.text form.form form.is in
+    let after : after_line reads.Nothing line.text ≡ reads.Options no_options = form.after ∙ ap (after_form reads.Nothing) (sym is.1) in
+    let head = head_read later standard_options 0 lines script 2 (none_set later) all_unset (ap (λ (r : Reading). script_from_by later 2 r lines) (sym after) ∙ p.1) in
+    let calls = calls_read later alike head.options head.sessions (replicate head.sessions []) head.rest script head.number (no_calls later head.sessions) head.read in
+    let behind = printed_sessions 1 calls.calls ++ printed_turns calls.turns in
+    let text = printed_options head.options ++ (sessions_text head.sessions ++ 10 ∷ behind) in
+    let whole : printed script ≡ header ++ 10 ∷ text = ap printed (sym calls.is) ∙ text_of (scheduled head.options head.sessions calls.calls calls.turns) in
+    let head_size : length line.text ≡ 13 = ap length is.0 in
+    let text_size : length text ≡ length (printed_options head.options) + (length (sessions_text head.sessions) + (1 + (length (printed_sessions 1 calls.calls) + length (printed_turns calls.turns)))) =
+    omega (arith, length-append (printed_options head.options) (sessions_text head.sessions ++ 10 ∷ behind), length-append (sessions_text head.sessions) (10 ∷ behind), length-append (printed_sessions 1 calls.calls) (printed_turns calls.turns)) in
+    let size : length (printed script) ≤ length bytes =
+    omega (arith, ap length whole, text_size, head_size, ended_size line (line_parts line p.0.bytes).0, head.size, no_options_size, calls.size, no_calls_size 1 head.sessions, fits) in
+    let right = no_reason later reads.Nothing (record { text = header; ended = true }) (header_right later line p.0 is.0) in
+    let again = all_again later head.options head.sessions script (replicate head.sessions []) head.rest head.set head.are calls 2 in
+    let read : script_from_by later 1 reads.Nothing (lines_of (printed script)) ≡ Ok script =
+    ap (λ (t : List ℕ). script_from_by later 1 reads.Nothing (lines_of t)) whole
+    ∙ lines_read later 1 reads.Nothing (reads.Options no_options) header text script refl right (ap (after_line reads.Nothing) (sym is.0) ∙ after) again in
+    record { again = rw (le-ltb SCRIPT_BYTES (length (printed script)) (omega (arith, size, small))) read; no_longer = size }
 
-not_large : (large : Bool) (bytes : List ℕ) (rest : Result ScriptParts ScriptFault) (script : ScriptParts) → cond large (fault_at 0 Size) rest ≡ Ok script → (large ≡ false) × (rest ≡ Ok script)
-not_large true bytes rest script e = absurd cc
-not_large false bytes rest script e = (refl, e)
+not_large : (large : Bool) (rest : Result ScriptParts ScriptFault) (script : ScriptParts) → cond large (fault_at 0 Size) rest ≡ Ok script → (large ≡ false) × (rest ≡ Ok script)
+not_large true rest script e = absurd cc
+not_large false rest script e = (refl, e)
 
-pub printed_again : (bytes : List ℕ) (script : ScriptParts) → script_of bytes ≡ Ok script → IsPrinted bytes script
-unfolding script_of
-printed_again bytes script e =
-    let p = not_large (nat_lt SCRIPT_BYTES (length bytes)) bytes (script_from 1 reads.Nothing (lines_of bytes)) script e in
-    by_lines bytes (lines_of bytes) script (not_less SCRIPT_BYTES (length bytes) p.0) (size_of_lines bytes) p.1
+pub printed_again : (later : IsLater) (alike : AreAlike later) (bytes : List ℕ) (script : ScriptParts) → script_by later bytes ≡ Ok script → IsPrinted later bytes script
+unfolding script_by
+printed_again later alike bytes script e =
+    let p = not_large (nat_lt SCRIPT_BYTES (length bytes)) (script_from_by later 1 reads.Nothing (lines_of bytes)) script e in
+    by_lines later alike bytes (lines_of bytes) script (not_less SCRIPT_BYTES (length bytes) p.0) (size_of_lines bytes) p.1

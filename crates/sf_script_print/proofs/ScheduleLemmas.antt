@@ -92,6 +92,13 @@ parts_of_words first (word ∷ words) one all =
     let p = and_parts (list_all is_word_byte word) (list_all (list_all is_word_byte) words) all in
     slice_split_at is_space first 32 (word ++ spaced words) (no_space_at first one) refl ∙ ap (λ (parts : List (List ℕ)). first ∷ parts) (parts_of_words word words p.0 p.1)
 
+-- the words of a printed schedule line are turns
+pub schedule_words_read : (sessions : ℕ) (turn : Turn) (turns : List Turn) → sessions < 2 ^ 64 → list_all (names_session sessions) (turn ∷ turns) ≡ true
+    → are_turns sessions (schedule_words (codes "schedule" ++ spaced (map turn_word (turn ∷ turns)))) ≡ true
+schedule_words_read sessions turn turns small all =
+    ap (λ (p : List (List ℕ)). are_turns sessions (drop 1 p)) (parts_of_words (codes "schedule") (map turn_word (turn ∷ turns)) refl (words_no_space sessions (turn ∷ turns) small all))
+    ∙ some_turn sessions (turn ∷ turns) small all
+
 -- a printed schedule line has the form of its turns
 pub schedule_read : (parts : ScriptParts) (turn : Turn) (turns : List Turn) → parts.sessions < 2 ^ 64 → list_all (names_session parts.sessions) (turn ∷ turns) ≡ true
     → form_of (reads.Sessions parts) (codes "schedule" ++ spaced (map turn_word (turn ∷ turns))) ≡ Some (ScheduleLine (turn ∷ turns))

@@ -1,3 +1,4 @@
 pub mod PrintedCalls
 pub mod Printing
+pub mod ScriptsBy
 pub mod ReasonExamples
