@@ -1,0 +1,5 @@
+pub mod NeedLemmas
+pub mod HomeLemmas
+pub mod EventLemmas
+pub mod CallHomeLemmas
+pub mod PromiseHomeLemmas
