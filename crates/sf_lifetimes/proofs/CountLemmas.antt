@@ -1,29 +1,25 @@
 -- How counts change.
-use Rattle.std.proofs.Common.{◌≡◌, ℕ, zero, suc, ◌+◌, ◌-◌, ◌^◌, ◌<◌, ◌≤◌, Bool, true, false, cond, nat_lt, List, [], ◌∷◌, ◌++◌, length, flat_map, take, get_or, eqb, Option, Some, None, refl, sym, ap, ◌∙◌, ◌⊎◌, inl, inr, arith, length-append}
-use Rattle.std.specs.Prelude.{◌==◌, ◌||◌, ◌≢◌, AllPairs, Result, Ok, Err, is_ok, MatchResult}
-use Rattle.std.specs.List.Sorted.{IsBinarySearchResult}
+use Rattle.std.proofs.Common.{◌≡◌, ℕ, zero, suc, ◌+◌, ◌-◌, ◌^◌, ◌<◌, ◌≤◌, Bool, true, false, cond, nat_lt, List, [], ◌∷◌, length, flat_map, take, get_or, eqb, Option, Some, None, refl, sym, ap, ◌∙◌, arith, length-append}
+use Rattle.std.specs.Prelude.{◌==◌, ◌||◌, ◌≢◌, AllPairs}
 use Rattle.std.specs.List.{list_any, sum_by, count_by, AllByRecursion, IsDistinct}
 use Rattle.std.specs.Ordering.{nat_cmp}
 use Rattle.std.specs.Cmp.{nat_cmp_total, unsigned_ties, unsigned_Decides}
 use Rattle.std.specs.FinMap as fin
 use Rattle.std.specs.FinMap.{nat_cmp-IsAntisymmetric, get-insert, get-remove, empty}
 use Rattle.std.proofs.lemmas.Bool.Decides.{nat_tests}
-use Rattle.std.proofs.lemmas.List.{map-append, length-take}
-use Rattle.std.proofs.lemmas.List.Elements.{filter_more}
-use Rattle.std.proofs.lemmas.List.Filters.{length-filter_more}
+use Rattle.std.proofs.lemmas.List.{length-take}
 use Rattle.std.proofs.lemmas.List.Folds.{list_any_more, list_any_at}
-use Rattle.std.proofs.lemmas.List.Sorted.{searched}
-use Rattle.std.proofs.lemmas.List.Sums.{sum_by-cons, sum_by-append, sum_by-le-sum_by, sum_by-take-le, length-filter, count_by-le-length}
+use Rattle.std.proofs.lemmas.List.Sums.{sum_by-cons, sum_by-append, sum_by-le-sum_by, length-filter, count_by-le-length}
 use Rattle.std.proofs.lemmas.Map.Made.{IsDistinct-from_AllPairs}
 use Rattle.std.proofs.lemmas.Map.Steps.{length-le_from_distinct_below}
 use Rattle.sf_types.specs.declared.birth_runs.BirthRuns.{BirthRuns}
 use Rattle.sf_types.specs.declared.run.Run.{Run}
 use Rattle.sf_types.specs.Inside.Births.{IsBelowAll, IsRising}
 use Rattle.sf_types.specs.Space.BlockRuns.{blocks_in}
-use Rattle.sf_types.proofs.NumberLemmas.{same_number, own_number, less, not_less}
+use Rattle.sf_types.proofs.NumberLemmas.{same_number, own_number, less}
 use Rattle.sf_lifetimes.specs.declared.place_map.Counted.{Counted}
 use Rattle.sf_lifetimes.specs.Ledgers.{has_birth}
-use Rattle.sf_lifetimes.specs.Inside.Counts.{CountedMap, IsCounted, IsFree, without_holder, IsChangedAt, AreChanged, with_one_fewer, live_in, times, holders_in, runs_in, last_births, lone_births, runs_of_births}
+use Rattle.sf_lifetimes.specs.Inside.Counts.{CountedMap, IsCounted, IsFree, without_holder, IsChangedAt, with_one_fewer, live_in, times, holders_in, runs_in, last_births, lone_births, runs_of_births}
 use Rattle.sf_lifetimes.proofs.MapSumLemmas.{weight, weight-le, sum-insert, sum-remove, no_values}
 
 pub none_counted : IsCounted empty 0
@@ -205,12 +201,12 @@ pub named_once : (xs : List ℕ) → AllPairs (λ x y. x ≢ y) xs → (q : ℕ)
 named_once xs apart = counted_once xs (IsDistinct-from_AllPairs unsigned_Decides xs apart)
 
 -- ---- one change after another
-below_at : (x : ℕ) (xs : List ℕ) (k : ℕ) → IsBelowAll x xs → k < length xs → x < get_or xs k 0
+pub below_at : (x : ℕ) (xs : List ℕ) (k : ℕ) → IsBelowAll x xs → k < length xs → x < get_or xs k 0
 below_at x [] k below less = absurd (omega (arith, less))
 below_at x (y ∷ xs) zero below less = below.0
 below_at x (y ∷ xs) (suc k) below less = below_at x xs k below.1 (omega (arith, less))
 
-other_number : (x y : ℕ) → x < y → (y == x) ≡ false
+pub other_number : (x y : ℕ) → x < y → (y == x) ≡ false
 other_number x y less = grind (arith, nat_tests, less)
 
 -- a birth of a rising list isn't among those before it
@@ -247,12 +243,6 @@ point_next g f h p xs k rising less before now q =
     ∙ or_at (has_birth (take k xs) q) (q == b) (g q (f q)) (f q) (λ t. ap (has_birth (take k xs)) (same_number q b t) ∙ not_before xs k rising less)
     ∙ ap (λ t. cond t (g q (f q)) (f q)) (sym (list_any_more (λ x. q == x) xs k 0 less))
 
-pub untouched : (change : Option Counted → Option Counted) (m n : CountedMap) (xs : List ℕ) (k : ℕ) → IsRising xs → k < length xs → AreChanged change m (take k xs) n → fin.get n (get_or xs k 0) ≡ fin.get m (get_or xs k 0)
-untouched change m n xs k rising less before = point_same (λ _. change) (fin.get m) (fin.get n) xs k rising less before
-
-pub changed_next : (change : Option Counted → Option Counted) (m n p : CountedMap) (xs : List ℕ) (k : ℕ) → IsRising xs → k < length xs → AreChanged change m (take k xs) n → IsChangedAt change n (get_or xs k 0) p → AreChanged change m (take (k + 1) xs) p
-changed_next change m n p xs k rising less before now = point_next (λ _. change) (fin.get m) (fin.get n) (fin.get p) xs k rising less before now
-
 pub has_own : (xs : List ℕ) (k : ℕ) → k < length xs → has_birth xs (get_or xs k 0) ≡ true
 has_own xs k less = list_any_at (λ b. get_or xs k 0 == b) xs k 0 less (own_number (get_or xs k 0))
 
@@ -284,47 +274,19 @@ one_length m n b is =
     ap (λ t. length (cond t (b ∷ []) [])) (ap (λ x. holders_in x == 1) is)
     ∙ elim (holders_in (fin.get m b) == 1) as (λ t. length (cond t (b ∷ []) []) ≡ cond t 1 0) [ true ↦ refl | false ↦ refl ]
 
--- the places that one birth more gives
-pub released_more : (m : CountedMap) (xs : List ℕ) (k : ℕ) → k < length xs → runs_of_births m (last_births m (take (k + 1) xs)) ≡ runs_of_births m (last_births m (take k xs)) ++ runs_of_births m (last_births m (get_or xs k 0 ∷ []))
-released_more m xs k less =
-    ap (runs_of_births m) (filter_more (λ b. holders_in (fin.get m b) == 1) xs k 0 less)
-    ∙ map-append {B = BirthRuns} (λ q. record { birth = q; runs = runs_in (fin.get m q) }) (last_births m (take k xs)) (last_births m (get_or xs k 0 ∷ []))
-
-pub last_more : (m : CountedMap) (xs : List ℕ) (k : ℕ) → k < length xs → (length (last_births m (take (k + 1) xs)) ≡ length (last_births m (take k xs)) + cond (holders_in (fin.get m (get_or xs k 0)) == 1) 1 0) × (length (last_births m (take (k + 1) xs)) ≤ length (last_births m xs))
-last_more m xs k less =
-    let p : ℕ → Bool = λ b. holders_in (fin.get m b) == 1 in (
-      length-filter_more p xs k 0 less,
-      omega (arith, length-filter p (take (k + 1) xs), length-filter p xs, sum_by-take-le (λ x. cond (p x) 1 0) xs (k + 1)),
-    )
-
 pub lone_few : (m : CountedMap) (more xs : List ℕ) (k : ℕ) → k ≤ length xs → length (lone_births m more (take k xs)) ≤ k
 lone_few m more xs k le =
     let p : ℕ → Bool = λ b. (holders_in (fin.get m b) + cond (has_birth more b) 1 0) == 1 in
     omega (arith, le, length-filter p (take k xs), count_by-le-length p (take k xs), length-take k xs)
 
 -- ---- a search in a rising list
-rising_le : (xs : List ℕ) → IsRising xs → (i j : ℕ) → i ≤ j → j < length xs → get_or xs i 0 ≤ get_or xs j 0
+pub rising_le : (xs : List ℕ) → IsRising xs → (i j : ℕ) → i ≤ j → j < length xs → get_or xs i 0 ≤ get_or xs j 0
 rising_le [] rising i j le less = absurd (omega (arith, less))
 rising_le (x ∷ xs) rising zero zero le less = omega arith
 rising_le (x ∷ xs) rising zero (suc j) le less = let lt = below_at x xs j rising.0 (omega (arith, less)) in omega (arith, lt)
 rising_le (x ∷ xs) rising (suc i) zero le less = absurd (omega (arith, le))
 rising_le (x ∷ xs) rising (suc i) (suc j) le less = rising_le xs rising.1 i j (omega (arith, le)) (omega (arith, less))
 
-not_there : (xs : List ℕ) (x : ℕ) → ((k : ℕ) → k < length xs → (x == get_or xs k 0) ≡ false) → has_birth xs x ≡ false
+pub not_there : (xs : List ℕ) (x : ℕ) → ((k : ℕ) → k < length xs → (x == get_or xs k 0) ≡ false) → has_birth xs x ≡ false
 not_there [] x apart = refl
 not_there (y ∷ xs) x apart = ap (λ t. t || has_birth xs x) (apart zero (omega arith)) ∙ not_there xs x (λ k less. apart (suc k) (omega (arith, less)))
-
--- what a binary search finds
-pub found_in : (xs : List ℕ) (x : ℕ) (r : Result ℕ ℕ) → IsRising xs → IsBinarySearchResult (λ y. nat_cmp y x) xs r → is_ok r ≡ has_birth xs x
-found_in xs x r rising search = by_case r (searched xs x r search (rising_le xs rising))
-  where
-    by_case : (r : Result ℕ ℕ) → MatchResult r (λ i. (i < length xs) × (get_or xs i 0 ≡ x)) (λ i. (i ≤ length xs) × ((k : ℕ) → k < i → get_or xs k 0 < x) × ((k : ℕ) → i ≤ k → k < length xs → x < get_or xs k 0)) → is_ok r ≡ has_birth xs x
-    by_case (Ok i) found = sym (ap (has_birth xs) (sym found.1) ∙ has_own xs i found.0)
-    by_case (Err i) found = sym (not_there xs x (λ k less. apart k less (before_or_not k i)))
-      where
-        before_or_not : (k i : ℕ) → (k < i) ⊎ (i ≤ k)
-        before_or_not k i = elim (nat_lt k i) as (λ t. nat_lt k i ≡ t → (k < i) ⊎ (i ≤ k)) [ true ↦ λ t. inl (less k i t) | false ↦ λ t. inr (not_less k i t) ] refl
-
-        apart : (k : ℕ) → k < length xs → (k < i) ⊎ (i ≤ k) → (x == get_or xs k 0) ≡ false
-        apart k within (inl b) = other_number (get_or xs k 0) x (found.1 k b)
-        apart k within (inr a) = let more = found.2 k a within in grind (arith, nat_tests, more)

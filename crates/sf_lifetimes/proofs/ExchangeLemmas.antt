@@ -1,12 +1,10 @@
 -- One holder more, and then one fewer.
-use Rattle.std.proofs.Common.{◌≡◌, ℕ, ◌+◌, ◌-◌, ◌≤◌, Bool, true, false, cond, List, map, Option, Some, None, refl, sym, ap, ◌∙◌, arith}
+use Rattle.std.proofs.Common.{◌≡◌, ℕ, ◌+◌, ◌-◌, ◌≤◌, Bool, true, false, cond, List, Option, Some, None, refl, sym, ap, ◌∙◌, arith}
 use Rattle.std.specs.Prelude.{◌==◌, is_some}
-use Rattle.std.specs.List.{filter}
 use Rattle.std.specs.FinMap as fin
-use Rattle.sf_types.specs.declared.birth_runs.BirthRuns.{BirthRuns}
-use Rattle.sf_types.specs.declared.run.Run.{Run}
+use Rattle.std.proofs.lemmas.Bool.Decides.{nat_tests}
 use Rattle.sf_lifetimes.specs.declared.place_map.Counted.{Counted}
-use Rattle.sf_lifetimes.specs.Inside.Counts.{CountedMap, AreChanged, AreExchanged, AreFew, AreHeld, with_one_more, with_one_fewer, holders_in, runs_in, last_births, lone_births, runs_of_births}
+use Rattle.sf_lifetimes.specs.Inside.Counts.{CountedMap, AreChangedBut, AreExchanged, AreFew, AreHeld, with_one_more, with_one_fewer, holders_in}
 use Rattle.sf_lifetimes.specs.Ledgers.{has_birth}
 use Rattle.sf_types.proofs.NumberLemmas.{same_number}
 use Rattle.sf_lifetimes.proofs.CountLemmas.{with_holders}
@@ -23,33 +21,44 @@ raised_at m new few b =
       | false ↦ λ t. omega arith
     ] refl
 
-pub raised_count : (m n : CountedMap) (new : List ℕ) → AreFew m new → AreChanged with_one_more m new n → (b : ℕ) → holders_in (fin.get n b) ≡ holders_in (fin.get m b) + cond (has_birth new b) 1 0
-raised_count m n new few changed b = ap holders_in (changed b) ∙ raised_at m new few b
+-- one holder more, and then one fewer, leaves a place that some holder holds
+fewer_more : (x : Option Counted) → 1 ≤ holders_in x → with_one_fewer (with_one_more x) ≡ x
+fewer_more None some = absurd (omega (arith, some))
+fewer_more (Some c) some =
+    let more : (c.holders + 1 == 1) ≡ false = grind (arith, nat_tests, some) in
+    let same : c.holders + 1 - 1 ≡ c.holders = omega arith in
+    ap (λ t. cond t None (Some (with_holders c (c.holders + 1 - 1)))) more ∙ ap (λ h. Some (with_holders c h)) same
 
-raise_runs : (t : Bool) (x : Option Counted) → runs_in (cond t (with_one_more x) x) ≡ runs_in x
-raise_runs true None = refl
-raise_runs true (Some c) = refl
-raise_runs false x = refl
+both_changed : (old new : Bool) (x : Option Counted) → (old ≡ true → with_one_fewer (with_one_more x) ≡ x)
+    → cond new (cond old (cond old (cond new x (with_one_fewer x)) x) (with_one_more (cond old (cond new x (with_one_fewer x)) x))) (cond old (cond new x (with_one_fewer x)) x)
+    ≡ cond old (with_one_fewer (cond new (with_one_more x) x)) (cond new (with_one_more x) x)
+both_changed true true x same = sym (same refl)
+both_changed true false x same = refl
+both_changed false true x same = refl
+both_changed false false x same = refl
 
-pub raised_runs : (m n : CountedMap) (new : List ℕ) → AreChanged with_one_more m new n → (b : ℕ) → runs_in (fin.get n b) ≡ runs_in (fin.get m b)
-raised_runs m n new changed b = ap runs_in (changed b) ∙ raise_runs (has_birth new b) (fin.get m b)
+-- what births that stand in one list alone have changed is what all have
+pub exchanged_but : (m n p : CountedMap) (new old : List ℕ) → AreHeld m old → AreChangedBut with_one_fewer m old new n → AreChangedBut with_one_more n new old p → AreExchanged m old new p
+exchanged_but m n p new old held down up q =
+    up q
+    ∙ ap (λ x. cond (has_birth new q) (cond (has_birth old q) x (with_one_more x)) x) (down q)
+    ∙ both_changed (has_birth old q) (has_birth new q) (fin.get m q) (λ is. fewer_more (fin.get m q) (held q is))
 
--- the births of which the last holder is about to go
-pub last_is_left : (m n : CountedMap) (new old : List ℕ) → AreFew m new → AreChanged with_one_more m new n → last_births n old ≡ lone_births m new old
-last_is_left m n new old few changed =
-    ap (λ (f : ℕ → ℕ). filter (λ b. f b == 1) old) (λ i b. raised_count m n new few changed b i)
+-- the new births have what they had before the old ones went
+either_way : (t : Bool) (x : Option Counted) → cond t x x ≡ x
+either_way true x = refl
+either_way false x = refl
 
-pub runs_left : (m n : CountedMap) (new old : List ℕ) → AreFew m new → AreChanged with_one_more m new n → runs_of_births n (last_births n old) ≡ runs_of_births m (lone_births m new old)
-runs_left m n new old few changed =
-    ap (runs_of_births n) (last_is_left m n new old few changed)
-    ∙ ap (λ (f : ℕ → List Run). map {B = BirthRuns} (λ b. record { birth = b; runs = f b }) (lone_births m new old)) (λ i b. raised_runs m n new changed b i)
+new_kept : (m n : CountedMap) (new old : List ℕ) → AreChangedBut with_one_fewer m old new n → (b : ℕ) → has_birth new b ≡ true → fin.get n b ≡ fin.get m b
+new_kept m n new old down b is =
+    down b
+    ∙ ap (λ t. cond (has_birth old b) (cond t (fin.get m b) (with_one_fewer (fin.get m b))) (fin.get m b)) is
+    ∙ either_way (has_birth old b) (fin.get m b)
 
--- births that are held stay so
-pub still_held : (m n : CountedMap) (new old : List ℕ) → AreFew m new → AreChanged with_one_more m new n → AreHeld m old → AreHeld n old
-still_held m n new old few changed held b is = omega (arith, held b is, raised_count m n new few changed b)
-
-pub exchanged : (m n p : CountedMap) (new old : List ℕ) → AreChanged with_one_more m new n → AreChanged with_one_fewer n old p → AreExchanged m old new p
-exchanged m n p new old up down q = down q ∙ ap (λ x. cond (has_birth old q) (with_one_fewer x) x) (up q)
+pub still_few : (m n : CountedMap) (new old : List ℕ) → AreFew m new → AreChangedBut with_one_fewer m old new n → AreFew n new
+still_few m n new old few down b is =
+    let same = new_kept m n new old down b is in
+    (ap (λ x. is_some x) same ∙ (few b is).0, omega (arith, ap holders_in same, (few b is).1))
 
 release_one : (x : Option Counted) → 1 ≤ holders_in x → holders_in (with_one_fewer x) + 1 ≡ holders_in x
 release_one None some = absurd (omega (arith, some))

@@ -9,3 +9,4 @@ pub mod ListingLemmas
 pub mod ShiftLemmas
 pub mod PlannedShiftLemmas
 pub mod TallyLemmas
+pub mod PlaceLemmas

@@ -4,3 +4,4 @@ pub mod Codes
 pub mod Counted
 pub mod Counts
 pub mod Tallies
+pub mod Places

@@ -5,6 +5,7 @@ mod holding_map;
 mod ledger;
 mod map_room;
 mod place_map;
+mod rising;
 mod tally;
 
 pub use ledger::{Ledger, UnheldPlaces};

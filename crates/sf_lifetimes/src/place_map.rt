@@ -9,12 +9,12 @@ ghost use Rattle.sf_types.specs.Inside.Births.{IsRising};
 ghost use Rattle.sf_types.specs.Space.BlockRuns.{blocks_in};
 ghost use Rattle.sf_types.specs.Rooms.{MakesRoom, GrowsWithin, MovesWithin};
 ghost use Rattle.sf_shrink.specs.Plans.{ArePlaced};
-ghost use Rattle.sf_lifetimes.specs.Ledgers.{has_birth};
 ghost use Rattle.sf_lifetimes.specs.Shifts.{AreSafeShifts};
 ghost use Rattle.sf_lifetimes.specs.Inside.Counted.{live_places_in, waiting_places_in};
-ghost use Rattle.sf_lifetimes.specs.Inside.Counts.{live_sum, holders_in, runs_in, live_runs, or_else, with_one_more, with_one_fewer, IsChangedAt, AreChanged, AreExchanged, AreFew, AreHeld, IsFree, without_holder, last_births, lone_births, runs_of_births, with_runs, with_shifts};
+ghost use Rattle.sf_lifetimes.specs.Inside.Counts.{live_sum, holders_in, runs_in, live_runs, or_else, with_one_more, with_one_fewer, IsChangedAt, AreChangedBut, AreExchanged, AreFew, AreHeld, IsFree, without_holder, last_births, lone_births, runs_of_births, with_runs, with_shifts};
 
 use crate::map_room::insert_within;
+use crate::rising::{place_from, stands_at};
 use sf_shrink::{Shift, ShiftList};
 use sf_types::{BirthRuns, BirthRunsList, ContentRuns, List, Mem, RoomList, TryCopy};
 use std::alloc::Global;
@@ -52,14 +52,6 @@ fn runs_if_held(counted: &Counted) -> Option<&ContentRuns>
     } else {
         Some(&counted.runs)
     }
-}
-
-// Whether a rising list has a birth.
-fn has(births: &[u128], birth: u128) -> bool
-    requires { IsRising births.now }
-    ensures { result ≡ has_birth births.now birth }
-{
-    births.binary_search(&birth).is_ok()
 }
 
 // Gives a birth other runs, where it has a place. It takes no memory.
@@ -246,54 +238,64 @@ impl PlaceMap {
         }
     }
 
-    // One holder more at each of some births. It takes no memory.
-    fn raise_all(&mut self, births: &[u128])
-        requires rising { IsRising births.now }
-        requires few { AreFew self.old.held births.now }
-        ensures changed { AreChanged with_one_more self.old.held births.now self.new.held }
+    // One holder more at each birth of a list that another list doesn't have. It takes no memory.
+    fn raise_new(&mut self, old: &[u128], new: &[u128])
+        requires old { IsRising old.now }
+        requires new { IsRising new.now }
+        requires few { AreFew self.old.held new.now }
+        ensures changed { AreChangedBut with_one_more self.old.held new.now old.now self.new.held }
         ensures spare { self.new.spare ≡ self.old.spare }
     {
-        for birth in births {
-            self.raise(*birth);
+        let mut at = 0;
+        for k in 0..new.len() {
+            at = place_from(old, at, new[k]);
+            if !stands_at(old, at, new[k]) {
+                self.raise(new[k]);
+            }
         }
     }
 
-    // One holder fewer at each of some births, whose places go into a list with room for them where that was the last. It
-    // takes no memory.
-    fn release_all(&mut self, births: &[u128], into: &mut UnheldPlaces)
-        requires rising { IsRising births.now }
-        requires held { AreHeld self.old.held births.now }
-        requires room { length (last_births self.old.held births.now) ≤ into.old.spare }
-        ensures changed { AreChanged with_one_fewer self.old.held births.now self.new.held }
-        ensures into { into.new.held ≡ into.old.held ++ runs_of_births self.old.held (last_births self.old.held births.now) }
+    // One holder fewer at each birth of a list that another list doesn't have, whose places go to the end of a list with room for
+    // them where that was the last. It takes no memory.
+    fn release_old(&mut self, old: &[u128], new: &[u128], into: &mut UnheldPlaces)
+        requires old { IsRising old.now }
+        requires new { IsRising new.now }
+        requires held { AreHeld self.old.held old.now }
+        requires room { length (lone_births self.old.held new.now old.now) ≤ into.old.spare }
+        ensures changed { AreChangedBut with_one_fewer self.old.held old.now new.now self.new.held }
+        ensures into { into.new.held ≡ into.old.held ++ runs_of_births self.old.held (lone_births self.old.held new.now old.now) }
         ensures spare { self.old.spare ≤ self.new.spare }
-        ensures into_spare { into.old.spare ≤ into.new.spare + length (last_births self.old.held births.now) }
+        ensures into_spare { into.old.spare ≤ into.new.spare + length (lone_births self.old.held new.now old.now) }
     {
-        for birth in births {
-            self.release(*birth, into);
+        let mut at = 0;
+        for k in 0..old.len() {
+            at = place_from(new, at, old[k]);
+            if !stands_at(new, at, old[k]) {
+                self.release(old[k], into);
+            }
         }
     }
 
-    // Whether one holder holds a birth once a rising list of births is held once more.
-    fn is_lone(&self, birth: u128, more: &[u128]) -> bool
-        requires { IsRising more.now }
-        ensures { result ≡ (holders_in (fin.get self.now.held birth) + cond (has_birth more.now birth) 1 0 == 1) }
+    // Whether one holder alone holds a birth that some holder holds, once it is held once more where this is said.
+    fn is_lone(&self, birth: u128, once_more: bool) -> bool
+        requires { 1 ≤ holders_in (fin.get self.now.held birth) }
+        ensures { result ≡ (holders_in (fin.get self.now.held birth) + cond once_more 1 0 == 1) }
     {
-        if has(more, birth) {
-            self.holders_of(birth) == 0
-        } else {
-            self.holders_of(birth) == 1
-        }
+        !once_more && self.holders_of(birth) == 1
     }
 
-    // The number of births of a list that one holder holds once a rising list of others is held once more.
-    fn count_lone(&self, births: &[u128], more: &[u128]) -> u64
-        requires { IsRising more.now }
-        ensures { result ≡ length (lone_births self.now.held more.now births.now) }
+    // The number of births of a list that another list doesn't have and that one holder holds.
+    fn count_lone(&self, old: &[u128], new: &[u128]) -> u64
+        requires old { IsRising old.now }
+        requires new { IsRising new.now }
+        requires held { AreHeld self.now.held old.now }
+        ensures { result ≡ length (lone_births self.now.held new.now old.now) }
     {
         let mut count = 0u64;
-        for at in 0..births.len() {
-            if self.is_lone(births[at], more) {
+        let mut at = 0;
+        for k in 0..old.len() {
+            at = place_from(new, at, old[k]);
+            if self.is_lone(old[k], stands_at(new, at, old[k])) {
                 count += 1;
             }
         }
@@ -301,7 +303,7 @@ impl PlaceMap {
     }
 
     // One holder more at each of the new births, and one fewer at each of the old ones, whose places go to the end of a list
-    // where that was the last.
+    // where that was the last. Births that stand in both lists are left alone.
     pub fn exchange(&mut self, old: &[u128], new: &[u128], into: &mut UnheldPlaces) -> Mem<()>
         requires old { IsRising old.now }
         requires new { IsRising new.now }
@@ -312,8 +314,8 @@ impl PlaceMap {
         ensures room { MovesWithin self.old self.new 0 0 into.old into.new (length (lone_births self.old.held new.now old.now)) result }
     {
         into.make_room(self.count_lone(old, new))?;
-        self.raise_all(new);
-        self.release_all(old, into);
+        self.release_old(old, new, into);
+        self.raise_new(old, new);
         Ok(())
     }
 

@@ -44,12 +44,14 @@ abbrev pub with_one_fewer : Option Counted → Option Counted
 with_one_fewer None = None
 with_one_fewer (Some c) = cond (c.holders == 1) None (Some (record { runs = c.runs; holders = c.holders - 1 }))
 
--- One birth is changed so, or all of a list.
+-- One birth is changed so.
 abbrev pub IsChangedAt : (Option Counted → Option Counted) → CountedMap → ℕ → CountedMap → Type 0
 IsChangedAt change m birth n = (q : ℕ) → fin.get n q ≡ cond (q == birth) (change (fin.get m birth)) (fin.get m q)
 
-abbrev pub AreChanged : (Option Counted → Option Counted) → CountedMap → List ℕ → CountedMap → Type 0
-AreChanged change m births n = (q : ℕ) → fin.get n q ≡ cond (has_birth births q) (change (fin.get m q)) (fin.get m q)
+-- All births of a list are changed so, but those that another list has.
+abbrev pub AreChangedBut : (Option Counted → Option Counted) → CountedMap → List ℕ → List ℕ → CountedMap → Type 0
+AreChangedBut change m births others n =
+    (q : ℕ) → fin.get n q ≡ cond (has_birth births q) (cond (has_birth others q) (fin.get m q) (change (fin.get m q))) (fin.get m q)
 
 -- Some births have one holder more, and then others one fewer.
 abbrev pub AreExchanged : CountedMap → List ℕ → List ℕ → CountedMap → Type 0

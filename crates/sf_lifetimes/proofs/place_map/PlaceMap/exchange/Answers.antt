@@ -1,39 +1,31 @@
-use Rattle.std.proofs.Common.{◌∙◌, ◌++◌, refl, ap, length, List, arith}
+use Rattle.std.proofs.Common.{◌∙◌, ◌++◌, refl, ap, List, arith}
 use Rattle.sf_types.specs.declared.birth_runs.BirthRuns.{BirthRuns}
-use Rattle.sf_lifetimes.specs.Inside.Counts.{last_births, runs_of_births}
-use Rattle.sf_lifetimes.proofs.ExchangeLemmas.{last_is_left, runs_left, still_held, exchanged}
+use Rattle.sf_lifetimes.specs.Inside.Counts.{lone_births, runs_of_births}
+use Rattle.sf_lifetimes.proofs.ExchangeLemmas.{still_few, exchanged_but}
 use Rattle.sf_lifetimes.proofs.place_map.PlaceMap.exchange.Goals as goal
 
-pub release_all-requires-clause-held : goal.release_all-requires-clause-held
-release_all-requires-clause-held c =
-    still_held c.args.self.now.held c.raise_all.new.self.held c.args.new.now c.args.old.now c.requires.few c.raise_all.ensures.changed c.requires.held
+pub release_old-requires-clause-room : goal.release_old-requires-clause-room
+release_old-requires-clause-room c = omega (arith, c.count_lone.ensures, c.in_ok-make_room.ensures.room)
 
-pub release_all-requires-clause-room : goal.release_all-requires-clause-room
-release_all-requires-clause-room c =
-    let left = last_is_left c.args.self.now.held c.raise_all.new.self.held c.args.new.now c.args.old.now c.requires.few c.raise_all.ensures.changed in
-    omega (arith, ap length left, c.count_lone.ensures, c.in_ok-make_room.ensures.room)
+pub raise_new-requires-clause-few : goal.raise_new-requires-clause-few
+raise_new-requires-clause-few c = still_few c.args.self.now.held c.release_old.new.self.held c.args.new.now c.args.old.now c.requires.few c.release_old.ensures.changed
 
 pub returns-clause-changed : goal.returns-clause-changed
 returns-clause-changed c =
-    exchanged c.args.self.now.held c.raise_all.new.self.held c.release_all.new.self.held c.args.new.now c.args.old.now c.raise_all.ensures.changed c.release_all.ensures.changed
+    exchanged_but c.args.self.now.held c.release_old.new.self.held c.raise_new.new.self.held c.args.new.now c.args.old.now c.requires.held c.release_old.ensures.changed c.raise_new.ensures.changed
 
 pub returns-clause-into : goal.returns-clause-into
 returns-clause-into c =
-    let n = c.raise_all.new.self.held in
-    let left = runs_left c.args.self.now.held n c.args.new.now c.args.old.now c.requires.few c.raise_all.ensures.changed in
-    c.release_all.ensures.into
-    ∙ ap (λ (held : List BirthRuns). held ++ runs_of_births n (last_births n c.args.old.now)) c.make_room.ensures.held
-    ∙ ap (λ (xs : List BirthRuns). c.args.into.now.held ++ xs) left
+    c.release_old.ensures.into
+    ∙ ap (λ (held : List BirthRuns). held ++ runs_of_births c.args.self.now.held (lone_births c.args.self.now.held c.args.new.now c.args.old.now)) c.make_room.ensures.held
 
 pub returns-clause-room : goal.returns-clause-room
-returns-clause-room c =
-    let left = last_is_left c.args.self.now.held c.raise_all.new.self.held c.args.new.now c.args.old.now c.requires.few c.raise_all.ensures.changed in
-    record {
-      done = λ _ _. refl;
-      spare = omega (arith, c.raise_all.ensures.spare, c.release_all.ensures.spare);
-      left = tt;
-      room_left = tt;
-      into_spare = omega (arith, ap length left, c.make_room.ensures.kept, c.release_all.ensures.into_spare);
-      into_left = tt;
-      into_room_left = tt;
-    }
+returns-clause-room c = record {
+  done = λ _ _. refl;
+  spare = omega (arith, c.raise_new.ensures.spare, c.release_old.ensures.spare);
+  left = tt;
+  room_left = tt;
+  into_spare = omega (arith, c.make_room.ensures.kept, c.release_old.ensures.into_spare);
+  into_left = tt;
+  into_room_left = tt;
+}
