@@ -1,5 +1,5 @@
 //! A map as a sorted vector of its entries.
-ghost use Rattle.std.specs.Prelude.{◌≡◌, ◌≤◌, [], length, map, is_some, slice_get, IfOk, IfErr, OnOk};
+ghost use Rattle.std.specs.Prelude.{◌≡◌, ◌+◌, ◌≤◌, [], length, map, is_some, slice_get, IsSome, Some, IfOk, IfErr, OnOk};
 ghost use Rattle.std.specs.Option.{option_copied, option_map};
 ghost use Rattle.std.specs.Map.{keys_of};
 ghost use Rattle.std.specs.Map.Iter.{deref_pair};
@@ -13,6 +13,7 @@ use sf_room_map::{Change, RoomKey};
 use sf_types::Mem;
 use std::alloc::Global;
 use std::marker::Model;
+use std::mem;
 
 /// A finite map with room for more entries. It is seen as the list of its entries, whose keys rise, and the number of
 /// entries that it can still take without memory. A look takes time in proportion to the logarithm of their number, and
@@ -116,6 +117,19 @@ impl<K: RoomKey, V> SortedMap<K, V> {
         }
     }
 
+    /// Puts a value at a key that is there, and gives the one that it had. It takes no memory.
+    pub fn replace(&mut self, key: &K, value: V) -> V
+        requires { IsSome (value_for K.cmp self.old.held key.now) }
+        ensures value { value_for K.cmp self.old.held key.now ≡ Some result }
+        ensures held { self.new.held ≡ with_value K.cmp self.old.held key.now value }
+        ensures spare { self.new.spare ≡ self.old.spare }
+    {
+        let Ok(at) = search(&self.entries, key) else {
+            unreachable!();
+        };
+        mem::replace(&mut self.entries[at].1, value)
+    }
+
     /// Makes a change to every value. It takes no memory.
     pub fn change_values<C: Change<V>>(&mut self, change: &C)
         ensures held { self.new.held ≡ map (λ e. (e.0, C.changed change.now e.1)) self.old.held }
@@ -148,6 +162,17 @@ impl<K: RoomKey + Drop, V: Drop> SortedMap<K, V> {
             }
             Err(at) => self.insert_at(at, key, value),
         }
+    }
+
+    /// Puts a value at a key, where there is room for what it adds. It takes no memory.
+    pub fn insert_within(&mut self, key: K, value: V)
+        requires { added_at K.cmp self.old.held key ≤ self.old.spare }
+        ensures held { self.new.held ≡ with_value K.cmp self.old.held key value }
+        ensures spare { self.old.spare ≤ self.new.spare + added_at K.cmp self.old.held key }
+    {
+        let Ok(()) = self.insert(key, value) else {
+            unreachable!();
+        };
     }
 
     /// Takes the entry of a key away. False exactly where there was none. It takes no memory.
