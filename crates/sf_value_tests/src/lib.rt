@@ -20,6 +20,4 @@ mod room_map;
 #[cfg(test)]
 mod row_locks;
 #[cfg(test)]
-mod row_versions;
-#[cfg(test)]
 mod sorted_map;

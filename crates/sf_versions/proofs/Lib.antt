@@ -1,1 +1,7 @@
 pub mod RowChangeLemmas
+pub mod RiseLemmas
+pub mod SpanLemmas
+pub mod AddedLemmas
+pub mod ReadLemmas
+pub mod TakenLemmas
+pub mod TableLemmas

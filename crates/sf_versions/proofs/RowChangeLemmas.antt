@@ -35,7 +35,7 @@ change_is (v ∷ vs) n =
 later : (v : ℕ × Option Value) (vs : RowChanges) (n : ℕ) → All (λ w. w.0 < n) (v ∷ vs) → nat_cmp n v.0 ≡ Greater
 later v vs n all = sym (nat_cmp_is n v.0 Greater (all 0 v (omega arith)))
 
-rest : (v : ℕ × Option Value) (vs : RowChanges) (n : ℕ) → All (λ (w : ℕ × Option Value). w.0 < n) (v ∷ vs) → All (λ (w : ℕ × Option Value). w.0 < n) vs
+pub rest : (v : ℕ × Option Value) (vs : RowChanges) (n : ℕ) → All (λ (w : ℕ × Option Value). w.0 < n) (v ∷ vs) → All (λ (w : ℕ × Option Value). w.0 < n) vs
 rest v vs n all k d below = all (suc k) d (omega (arith, below))
 
 -- a version with a greater number stands last

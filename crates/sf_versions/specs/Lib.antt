@@ -1,1 +1,3 @@
 pub mod RowChanges
+pub mod VersionTables
+pub mod Inside

@@ -1,5 +1,5 @@
 -- The versions of one row, each with the number of the commit that made it (our own; after the rules of the table's versions).
-use Rattle.std.specs.Prelude.{ℕ, ◌+◌, ◌-◌, nat_le, length, slice_get, List, [], ◌∷◌, Option, Some, None, if◌then◌else◌}
+use Rattle.std.specs.Prelude.{ℕ, ◌+◌, ◌-◌, ◌<◌, ◌≤◌, nat_le, length, slice_get, List, [], ◌∷◌, Option, Some, None, if◌then◌else◌}
 use Rattle.std.specs.Option.{option_map, option_map_or}
 use Rattle.sf_types.specs.Inside.NameMaps.{get}
 use Rattle.sf_types.specs.Values.Marks.{Value}
@@ -9,6 +9,11 @@ use Rattle.sf_types.specs.Table.Versions.{later_change, value_or_absent}
 -- The versions of a row.
 abbrev pub RowChanges : Type 0
 RowChanges = List (ℕ × Option Value)
+
+-- The numbers of versions rise, from more than the one number up to the other.
+abbrev pub RiseWithin : ℕ → ℕ → RowChanges → Type 0
+RiseWithin low now [] = Unit {0}
+RiseWithin low now (v ∷ vs) = (low < v.0) × (v.0 ≤ now) × RiseWithin v.0 now vs
 
 -- The change that the last version to be made by one of the first n commits makes, or none where none was.
 abbrev pub change_up_to : RowChanges → ℕ → Option (Option Value)

@@ -1,5 +1,5 @@
-use Rattle.sf_versions.proofs.RowChangeLemmas.{changes_are}
+use Rattle.sf_versions.proofs.TableLemmas.{versions_made, value_after, current_after}
 use Rattle.sf_versions.proofs.laws.versions_are_those_of_the_table.Goals as goal
 
 pub returns : goal.returns
-returns c = record { law = changes_are }
+returns c = record { versions = versions_made; at = value_after; current = current_after }

@@ -1,0 +1,3 @@
+-- Words that serve the versions' own places.
+pub mod VersionOrder
+pub mod Spans
