@@ -1,3 +1,4 @@
+pub mod Asks
 pub mod RowChanges
 pub mod VersionTables
 pub mod Inside
