@@ -4,3 +4,4 @@ pub mod DepthLemmas
 pub mod NodeLemmas
 pub mod TallyLemmas
 pub mod WalkLemmas
+pub mod WeightLemmas

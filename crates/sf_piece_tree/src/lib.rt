@@ -12,6 +12,7 @@ mod tree;
 mod unit;
 mod visitor;
 mod walk;
+mod weights;
 
 pub use piece_tree::PieceTree;
 pub use unit::Unit;

@@ -1,6 +1,6 @@
 //! Trees taken apart and put together.
 ghost use Rattle.std.specs.Prelude.{◌≡◌, ◌+◌, ◌^◌, ◌<◌, ◌≤◌, [], ◌∷◌, ◌++◌, length, take, drop, List, IsOk, IfOk, OnErr};
-ghost use Rattle.sf_piece_tree.specs.Contents.{joined_content};
+ghost use Rattle.sf_piece_tree.specs.Contents.{joined_content, weight_of};
 ghost use Rattle.sf_piece_tree.specs.Cuts.{CutsBetween, IsCut};
 
 use crate::balance::join_by;
@@ -30,6 +30,50 @@ pub fn take_out<P: Unit>(tree: Tree<P>, at: u64) -> (Tree<P>, Box<Node<P>>, Tree
         return (left, node, right);
     }
     let (rest, found, last) = take_out(right, at - through);
+    (join_by(left, node, rest), found, last)
+}
+
+// Takes out the node with an index, counted from 0: the tree of the units before it, the node, and the tree of those after it.
+pub fn take_nth<P: Unit>(tree: Tree<P>, index: u64) -> (Tree<P>, Box<Node<P>>, Tree<P>)
+    requires { index < length tree.units }
+    ensures units { tree.units ≡ result.0.units ++ result.1.value.unit ∷ result.2.units }
+    ensures before { length result.0.units ≡ index }
+{
+    let Some(mut node) = tree.into_root() else {
+        unreachable!()
+    };
+    let (left, right) = node.take_sides();
+    let before = left.tally().pieces;
+    if index < before {
+        let (first, found, rest) = take_nth(left, index);
+        return (first, found, join_by(rest, node, right));
+    }
+    if index == before {
+        return (left, node, right);
+    }
+    let (rest, found, last) = take_nth(right, index - before - 1);
+    (join_by(left, node, rest), found, last)
+}
+
+// Takes out the first node whose unit has some weight: the tree of the units before it, the node, and the tree of those after it.
+pub fn take_weighty<P: Unit>(tree: Tree<P>) -> (Tree<P>, Box<Node<P>>, Tree<P>)
+    requires { 0 < weight_of P.weight tree.units }
+    ensures units { tree.units ≡ result.0.units ++ result.1.value.unit ∷ result.2.units }
+    ensures light { weight_of P.weight result.0.units ≡ 0 }
+    ensures weighty { 0 < P.weight result.1.value.unit }
+{
+    let Some(mut node) = tree.into_root() else {
+        unreachable!()
+    };
+    let (left, right) = node.take_sides();
+    if left.tally().weight > 0 {
+        let (first, found, rest) = take_weighty(left);
+        return (first, found, join_by(rest, node, right));
+    }
+    if node.unit.weight() > 0 {
+        return (left, node, right);
+    }
+    let (rest, found, last) = take_weighty(right);
     (join_by(left, node, rest), found, last)
 }
 

@@ -1,10 +1,13 @@
 //! Trees of units joined and cut.
-ghost use Rattle.std.specs.Prelude.{◌≡◌, ◌+◌, ◌^◌, ◌<◌, ◌≤◌, ◌++◌, length, take, drop, List, IsOk, IfOk, OnErr};
+ghost use Rattle.std.specs.Prelude.{◌≡◌, ◌+◌, ◌^◌, ◌<◌, ◌≤◌, ◌∷◌, ◌++◌, length, take, drop, List, IsOk, IfOk, OnErr};
 ghost use Rattle.sf_piece_tree.specs.Contents.{joined_content, weight_of};
 ghost use Rattle.sf_piece_tree.specs.Cuts.{CutsBetween, IsCut};
+ghost use Rattle.sf_piece_tree.specs.Weights.{BeginsWeighty};
 
-use crate::parts::{concat, split};
+use crate::balance::join_by;
+use crate::parts::{concat, split, take_nth, take_weighty};
 use crate::piece_tree::PieceTree;
+use crate::tree::Tree;
 use crate::unit::Unit;
 use sf_types::{Mem, TryCopy};
 
@@ -60,5 +63,41 @@ impl<P: Unit> PieceTree<P> {
             tree: second?,
             alloc: self.alloc,
         })
+    }
+
+    /// Cuts the tree behind so many units: these stay, and the others are the result. It takes no memory.
+    pub fn split_pieces(&mut self, count: u64) -> PieceTree<P>
+        requires { count ≤ length self.old }
+        ensures first { self.new ≡ take count self.old }
+        ensures second { result ≡ drop count self.old }
+    {
+        let _size = self.size();
+        let alloc = self.alloc;
+        if count == self.pieces() {
+            return PieceTree::empty(alloc);
+        }
+        let (first, node, rest) = take_nth(self.take_tree(), count);
+        self.tree = first;
+        PieceTree {
+            tree: join_by(Tree::empty(), node, rest),
+            alloc,
+        }
+    }
+
+    /// Cuts the tree, which has some weight, before the first unit that has some: the units before it stay, and it and those
+    /// behind it are the result. It takes no memory.
+    pub fn split_light(&mut self) -> PieceTree<P>
+        requires { 0 < weight_of P.weight self.old }
+        ensures units { self.old ≡ self.new ++ result }
+        ensures light { weight_of P.weight self.new ≡ 0 }
+        ensures weighty { BeginsWeighty P.weight result }
+    {
+        let _size = self.size();
+        let (first, node, rest) = take_weighty(self.take_tree());
+        self.tree = first;
+        PieceTree {
+            tree: join_by(Tree::empty(), node, rest),
+            alloc: self.alloc,
+        }
     }
 }
