@@ -1,8 +1,11 @@
 pub mod AmongLemmas
 pub mod BirthLemmas
 pub mod CountLemmas
+pub mod FreshLemmas
 pub mod ListedLemmas
 pub mod PieceLemmas
 pub mod SeamLemmas
+pub mod SegmentLemmas
+pub mod SettleLemmas
 pub mod SpliceLemmas
 pub mod TreeLemmas

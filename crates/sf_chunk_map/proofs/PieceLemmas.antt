@@ -30,7 +30,7 @@ window-back from len n xs most =
     ∙ ap (take (len - n)) (drop-drop n from xs)
     )
 
-length_stored_from : (birth index : ℕ) (bytes : List ℕ) → length (stored_bytes_from birth index bytes) ≡ length bytes
+pub length_stored_from : (birth index : ℕ) (bytes : List ℕ) → length (stored_bytes_from birth index bytes) ≡ length bytes
 length_stored_from birth index [] = refl
 length_stored_from birth index (b ∷ bs) = ap suc (length_stored_from birth (index + 1) bs)
 
@@ -44,7 +44,7 @@ none_stored birth index [] = refl
 none_stored birth index (b ∷ bs) = none_stored birth (index + 1) bs
 
 -- where no byte is fresh, none in a window is
-none_in_window : (from len : ℕ) (xs : List Marked) → fresh_in xs ≡ 0 → fresh_in (window from len xs) ≡ 0
+pub none_in_window : (from len : ℕ) (xs : List Marked) → fresh_in xs ≡ 0 → fresh_in (window from len xs) ≡ 0
 none_in_window from len xs none =
     omega (
       arith,

@@ -3,3 +3,4 @@ pub mod Counts
 pub mod FreshBytes
 pub mod Trees
 pub mod Seams
+pub mod Settling

@@ -1,4 +1,5 @@
 pub mod Contents
 pub mod Pieces
 pub mod Maps
+pub mod Stretches
 pub mod Inside

@@ -4,10 +4,12 @@
 mod counting;
 mod counts;
 mod cuts;
+mod fresh_bytes;
 mod map;
 mod parts;
 mod piece_unit;
 mod seams;
+mod settling;
 mod slices;
 mod splices;
 mod swaps;

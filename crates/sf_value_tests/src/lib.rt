@@ -6,6 +6,8 @@ mod chunk_map;
 #[cfg(test)]
 mod edits;
 #[cfg(test)]
+mod gather;
+#[cfg(test)]
 mod index;
 #[cfg(test)]
 mod piece_tree;
