@@ -2,7 +2,9 @@ pub mod AmongLemmas
 pub mod BirthLemmas
 pub mod CountLemmas
 pub mod FreshLemmas
+pub mod LendingLemmas
 pub mod ListedLemmas
+pub mod MaximalLemmas
 pub mod PieceLemmas
 pub mod SeamLemmas
 pub mod SegmentLemmas

@@ -1,6 +1,7 @@
 -- Words of the clauses of the crate's own functions.
 pub mod Counts
 pub mod FreshBytes
+pub mod LastPieces
 pub mod Trees
 pub mod Seams
 pub mod Settling

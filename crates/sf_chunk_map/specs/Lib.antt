@@ -2,4 +2,5 @@ pub mod Contents
 pub mod Pieces
 pub mod Maps
 pub mod Stretches
+pub mod MaximalPieces
 pub mod Inside

@@ -1,9 +1,11 @@
 -- What the calls of a map make of its value (our own). Bytes are counted from 0.
-use Rattle.std.specs.Prelude.{ℕ, ◌+◌, ◌-◌, ◌≤◌, List, ◌++◌, length, take, drop}
+use Rattle.std.specs.Prelude.{◌≡◌, ℕ, ◌+◌, ◌-◌, ◌<◌, ◌≤◌, List, ◌++◌, length, take, drop}
 use Rattle.sf_types.specs.declared.limits.TheConstants.{OBJECT_BYTES}
 use Rattle.sf_types.specs.declared.options.Choice.TheVariants as choice
 use Rattle.sf_types.specs.Values.Marks.{Marked, Value}
 use Rattle.sf_chunk_map.specs.Contents.{window}
+use Rattle.sf_chunk_map.specs.declared.parts.Piece.{Piece}
+use Rattle.sf_chunk_map.specs.Pieces.{marked_of}
 
 -- A value of these bytes, whose choice is Standard.
 abbrev pub standard_value : List Marked → Value
@@ -30,3 +32,9 @@ LiesWithin value at len = at + len ≤ length value.bytes
 -- Where so many bytes go and others come, the value stays within the most bytes of an object.
 abbrev pub StaysWithin : Value → ℕ → List Marked → Type 0
 StaysWithin value remove with = length value.bytes - remove + length with ≤ OBJECT_BYTES
+
+-- A piece holds the bytes of a value around a byte, counted from 0: so many of the piece's bytes come before it.
+pub record HoldsAt (value : Value) (at : ℕ) (piece : Piece) (before : ℕ) : Type 0 where
+  pub within : before < length (marked_of piece)
+  pub starts : before ≤ at
+  pub bytes : window (at - before) (length (marked_of piece)) value.bytes ≡ marked_of piece

@@ -1,5 +1,5 @@
 //! Pieces of a value: parts of stored contents, zero bytes, and fresh bytes.
-ghost use Rattle.std.specs.Prelude.{◌≡◌, ℕ, ◌+◌, ◌-◌, ◌<◌, ◌≤◌, length, take, drop, true, IfOk};
+ghost use Rattle.std.specs.Prelude.{◌≡◌, ℕ, ◌+◌, ◌-◌, ◌<◌, ◌≤◌, ◌↔◌, length, take, drop, IsTrue, IfOk};
 ghost use Rattle.sf_types.specs.declared.limits.TheConstants.{CONTENT_BYTES, OBJECT_BYTES};
 ghost use Rattle.sf_dedup.specs.Prints.{print_of};
 ghost use Rattle.sf_chunk_map.specs.Contents.{window, bytes_of_part};
@@ -70,7 +70,7 @@ impl Chunk {
 impl Chunk {
     // Whether two chunks have one birth and equal contents.
     pub fn is_same(&self, other: &Chunk) -> bool
-        ensures { result ≡ true → self.now ≡ other.now }
+        ensures { IsTrue result ↔ (self.now ≡ other.now) }
     {
         self.birth == other.birth && self.content == other.content
     }

@@ -1,7 +1,9 @@
 //! Where trees meet: pieces that go on in one another become one piece.
-ghost use Rattle.std.specs.Prelude.{◌≡◌, ◌+◌, ◌<◌, ◌≤◌, ◌^◌, ◌++◌, length, true, IfOk, IfSome};
+ghost use Rattle.std.specs.Prelude.{◌≡◌, ◌+◌, ◌<◌, ◌≤◌, ◌^◌, ◌++◌, ◌↔◌, length, true, IsTrue, IfOk, IfSome};
 ghost use Rattle.sf_types.specs.declared.limits.TheConstants.{CONTENT_BYTES as CONTENT_SIZE, OBJECT_BYTES};
 ghost use Rattle.sf_chunk_map.specs.Contents.{bytes_of_part};
+ghost use Rattle.sf_chunk_map.specs.declared.parts.Piece.TheVariants.{Stored};
+ghost use Rattle.sf_chunk_map.specs.MaximalPieces.{GoesOn};
 ghost use Rattle.sf_chunk_map.specs.Pieces.{marked_of, marked_in};
 ghost use Rattle.sf_chunk_map.specs.Inside.Seams.{IsSeam};
 
@@ -18,9 +20,8 @@ pub enum Old {
 }
 
 // Whether a part goes on in the content of another.
-fn goes_on(left: &StoredPart, right: &StoredPart) -> bool
-    ensures content { result ≡ true → left.now.content ≡ right.now.content }
-    ensures next { result ≡ true → left.now.from + left.now.len ≡ right.now.from }
+pub fn goes_on(left: &StoredPart, right: &StoredPart) -> bool
+    ensures { IsTrue result ↔ GoesOn (Stored left.now) (Stored right.now) }
 {
     let is_next = u64::from(left.from()) + u64::from(left.len()) == u64::from(right.from());
     is_next && left.chunk().is_same(right.chunk())

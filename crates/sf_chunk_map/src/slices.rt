@@ -26,7 +26,7 @@ fn front_of(piece: &Piece, len: u64) -> Mem<Piece>
 }
 
 // So many bytes of a piece from an index on, counted from 0.
-fn part_of(piece: &Piece, from: u64, len: u64) -> Mem<Piece>
+pub fn part_of(piece: &Piece, from: u64, len: u64) -> Mem<Piece>
     requires some { 1 ≤ len }
     requires within { from + len ≤ length (marked_of piece.now) }
     ensures { IfOk result (λ part. marked_of part ≡ window from len (marked_of piece.now)) }

@@ -1,2 +1,3 @@
 pub mod EditCalls
 pub mod EditedValues
+pub mod Inside

@@ -2,11 +2,15 @@
 #![tactic(auto)]
 
 mod calls;
+mod comparison;
 mod editing;
 mod faults;
 mod places;
 mod reads;
+mod search;
+mod zeros;
 
 pub use calls::Answer;
 pub use editing::{Edited, edit, edit_in};
 pub use reads::{compare, read};
+pub use search::instr;

@@ -1,5 +1,5 @@
 //! What is read of values.
-ghost use Rattle.std.specs.Prelude.{◌≡◌, ◌+◌, ◌-◌, ◌≤◌, length, min, bytes_eq, IfOk};
+ghost use Rattle.std.specs.Prelude.{◌≡◌, ◌≤◌, length, bytes_eq, IfOk};
 ghost use Rattle.sf_types.specs.Values.Marks.{size_of, strip};
 ghost use Rattle.sf_types.specs.Values.Edits.{part};
 ghost use Rattle.sf_types.specs.Calls.Refusals.{first_refusal};
@@ -7,18 +7,15 @@ ghost use Rattle.sf_types.specs.Calls.Arguments.{read_arguments, compare_argumen
 ghost use Rattle.sf_types.specs.Calls.LocatorCalls.{read_bytes};
 ghost use Rattle.sf_chunk_map.specs.Contents.{window};
 ghost use Rattle.sf_fragment_ops.specs.EditCalls.{answered};
-ghost use Rattle.sf_fragment_ops.specs.declared.reads.TheConstants.{COMPARED_BYTES as COMPARED};
 
+use crate::comparison::are_equal;
 use crate::faults;
 use sf_chunk_map::Map;
 use sf_types::{Blob, Fault, Mem};
 use std::alloc::Global;
 
-// How many bytes are compared at a time.
-const COMPARED_BYTES: usize = 4096;
-
 // The bytes of a value from one on, so many or up to the end.
-fn bytes_from(alloc: Global, value: &Map, at: u64, amount: u64) -> Mem<Blob>
+pub fn bytes_from(alloc: Global, value: &Map, at: u64, amount: u64) -> Mem<Blob>
     requires { at ≤ size_of value.now }
     ensures { IfOk result (λ bytes. bytes ≡ window at amount (strip value.now)) }
 {
@@ -43,41 +40,6 @@ fn part_len(value: &Map, amount: u64, offset: u64) -> u64
     ensures { result ≡ length (part (strip value.now) amount offset) }
 {
     amount.min(value.len().saturating_sub(offset.saturating_sub(1)))
-}
-
-// Whether as many bytes of two values, from one of each on, are the same.
-fn are_same(left: &Map, left_at: u64, right: &Map, right_at: u64, count: usize) -> bool
-    requires few { count ≤ COMPARED }
-    requires left { left_at + count ≤ size_of left.now }
-    requires right { right_at + count ≤ size_of right.now }
-    ensures { result ≡ bytes_eq (window left_at count (strip left.now)) (window right_at count (strip right.now)) }
-{
-    let _left = left.len();
-    let _right = right.len();
-    let mut first = [0u8; COMPARED_BYTES];
-    let mut second = [0u8; COMPARED_BYTES];
-    left.read_into(left_at, &mut first[..count]);
-    right.read_into(right_at, &mut second[..count]);
-    first[..count] == second[..count]
-}
-
-// Whether so many bytes of two values, from one of each on, are the same. It takes no memory.
-fn are_equal(left: &Map, left_at: u64, right: &Map, right_at: u64, len: u64) -> bool
-    requires left { left_at + len ≤ size_of left.now }
-    requires right { right_at + len ≤ size_of right.now }
-    ensures { result ≡ bytes_eq (window left_at len (strip left.now)) (window right_at len (strip right.now)) }
-{
-    let _left = left.len();
-    let _right = right.len();
-    let mut done = 0u64;
-    while done < len {
-        let count = (len - done).min(COMPARED_BYTES as u64);
-        if !are_same(left, left_at + done, right, right_at + done, count as usize) {
-            return false;
-        }
-        done += count;
-    }
-    true
 }
 
 /// Whether parts of two values are equal, each the bytes from its offset, amount of them or up to the end, or how Compare is

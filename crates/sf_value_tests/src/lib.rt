@@ -1,12 +1,6 @@
-//! Tests of the crates of values. They use public calls alone.
+//! Tests of trees of units, and of prints and the index of contents. They use public calls alone.
 #![tactic(auto)]
 
-#[cfg(test)]
-mod chunk_map;
-#[cfg(test)]
-mod edits;
-#[cfg(test)]
-mod gather;
 #[cfg(test)]
 mod index;
 #[cfg(test)]

@@ -15,4 +15,4 @@ returns-in-Ok c =
     ∙ ap (λ (k : ℕ). record { content = left.content; from = k; len = first + second }) c.from.ensures
     ∙ ap (λ (k : ℕ). record { content = left.content; from = left.from; len = k + second }) c.len-first.ensures.len
     ∙ ap (λ (k : ℕ). record { content = left.content; from = left.from; len = left.len + k }) c.len-second.ensures.len in
-    ap (λ (p : ContentPart). bytes_of_part p) is ∙ joined-part left right (c.if-not-goes_on.ensures.content refl) (c.if-not-goes_on.ensures.next refl)
+    ap (λ (p : ContentPart). bytes_of_part p) is ∙ joined-part left right (c.if-not-goes_on.ensures.0 refl).0 (c.if-not-goes_on.ensures.0 refl).1

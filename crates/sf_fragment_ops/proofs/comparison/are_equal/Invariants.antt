@@ -1,7 +1,7 @@
 use Rattle.std.proofs.Common.{◌≡◌, ◌≤◌, ◌-◌}
 use Rattle.sf_types.specs.Values.Marks.{strip}
 use Rattle.sf_chunk_map.specs.Contents.{window}
-use Rattle.sf_fragment_ops.proofs.reads.are_equal.Given as goal
+use Rattle.sf_fragment_ops.proofs.comparison.are_equal.Given as goal
 
 abbrev pub invariant-loop-done : goal.invariant-loop-done
 invariant-loop-done l = record {
