@@ -78,14 +78,38 @@ fn stretches_are_cut_from_their_front(rt: HostRuntime) -> Result<(), Fail> {
     let long = Part::Fresh(97, 20_000);
     assert_eq!(rt; contents(rt.alloc(), &[])?.len(), 0);
     assert_eq!(rt; contents(rt.alloc(), &[zeros, stored])?.len(), 0);
-    assert_eq!(rt; contents(rt.alloc(), &[a])?.as_slice(), [(97, 2)].as_slice());
-    assert_eq!(rt; contents(rt.alloc(), &[long, b, c])?.as_slice(), [(97, 20_004)].as_slice());
-    assert_eq!(rt; contents(rt.alloc(), &[long, b, long])?.as_slice(), [(97, 32_768), (97, 7_235)].as_slice());
-    assert_eq!(rt; contents(rt.alloc(), &[Part::Fresh(97, 32_768)])?.as_slice(), [(97, 32_768)].as_slice());
-    assert_eq!(rt; contents(rt.alloc(), &[Part::Fresh(97, 32_769)])?.as_slice(), [(97, 32_768), (97, 1)].as_slice());
-    assert_eq!(rt; contents(rt.alloc(), &[a, zeros, b])?.as_slice(), [(97, 2), (98, 3)].as_slice());
-    assert_eq!(rt; contents(rt.alloc(), &[a, stored, b])?.as_slice(), [(97, 2), (98, 3)].as_slice());
-    assert_eq!(rt; contents(rt.alloc(), &[zeros, a, b, stored])?.as_slice(), [(97, 5)].as_slice());
+    assert_eq!(rt;
+        contents(rt.alloc(), &[a])?.as_slice(),
+        [(97, 2)].as_slice()
+    );
+    assert_eq!(rt;
+        contents(rt.alloc(), &[long, b, c])?.as_slice(),
+        [(97, 20_004)].as_slice()
+    );
+    assert_eq!(rt;
+        contents(rt.alloc(), &[long, b, long])?.as_slice(),
+        [(97, 32_768), (97, 7_235)].as_slice()
+    );
+    assert_eq!(rt;
+        contents(rt.alloc(), &[Part::Fresh(97, 32_768)])?.as_slice(),
+        [(97, 32_768)].as_slice()
+    );
+    assert_eq!(rt;
+        contents(rt.alloc(), &[Part::Fresh(97, 32_769)])?.as_slice(),
+        [(97, 32_768), (97, 1)].as_slice()
+    );
+    assert_eq!(rt;
+        contents(rt.alloc(), &[a, zeros, b])?.as_slice(),
+        [(97, 2), (98, 3)].as_slice()
+    );
+    assert_eq!(rt;
+        contents(rt.alloc(), &[a, stored, b])?.as_slice(),
+        [(97, 2), (98, 3)].as_slice()
+    );
+    assert_eq!(rt;
+        contents(rt.alloc(), &[zeros, a, b, stored])?.as_slice(),
+        [(97, 5)].as_slice()
+    );
     Ok(())
 }
 
@@ -93,7 +117,10 @@ fn stretches_are_cut_from_their_front(rt: HostRuntime) -> Result<(), Fail> {
 fn two_values(alloc: Global) -> Mem<MapList> {
     let mut values = List::new(alloc);
     values.push(of_parts(alloc, &[Part::Fresh(97, 2)])?)?;
-    values.push(of_parts(alloc, &[Part::Fresh(98, 3), Part::Zeros(1), Part::Fresh(99, 1)])?)?;
+    values.push(of_parts(
+        alloc,
+        &[Part::Fresh(98, 3), Part::Zeros(1), Part::Fresh(99, 1)],
+    )?)?;
     Ok(values)
 }
 
@@ -135,7 +162,12 @@ fn chunks(alloc: Global, contents: &BlobList, first: u64) -> Mem<ChunkList>
 
 // `aa`, two zeros, `bbb` and the stored `bcd`, settled by births from 5 on.
 fn settled(alloc: Global) -> Mem<Map> {
-    let parts = [Part::Fresh(97, 2), Part::Zeros(2), Part::Fresh(98, 3), Part::Stored];
+    let parts = [
+        Part::Fresh(97, 2),
+        Part::Zeros(2),
+        Part::Fresh(98, 3),
+        Part::Stored,
+    ];
     let value = of_parts(alloc, &parts)?;
     let chunks = chunks(alloc, &value_contents(alloc, &value)?, 5)?;
     settle(&value, &chunks)
@@ -158,17 +190,29 @@ fn settled_bytes_are_stored(rt: HostRuntime) -> Result<(), Fail> {
     value.read_into(0, &mut bytes);
     assert_eq!(rt; bytes.as_slice(), b"aa\0\0bbbbcd!".as_slice());
     assert_eq!(rt; value.fresh(), 0);
-    assert_eq!(rt; births(rt.alloc(), &value, 0, 2)?.as_slice(), [5].as_slice());
+    assert_eq!(rt;
+        births(rt.alloc(), &value, 0, 2)?.as_slice(),
+        [5].as_slice()
+    );
     assert_eq!(rt; births(rt.alloc(), &value, 2, 2)?.len(), 0);
-    assert_eq!(rt; births(rt.alloc(), &value, 4, 3)?.as_slice(), [6].as_slice());
-    assert_eq!(rt; births(rt.alloc(), &value, 6, 2)?.as_slice(), [6, 7].as_slice());
+    assert_eq!(rt;
+        births(rt.alloc(), &value, 4, 3)?.as_slice(),
+        [6].as_slice()
+    );
+    assert_eq!(rt;
+        births(rt.alloc(), &value, 6, 2)?.as_slice(),
+        [6, 7].as_slice()
+    );
     assert_eq!(rt; value.births()?.as_slice(), [5, 6, 7].as_slice());
     Ok(())
 }
 
 #[test]
 fn values_are_due(rt: HostRuntime) -> Result<(), Fail> {
-    let value = of_parts(rt.alloc(), &[Part::Fresh(97, 300), Part::Zeros(9), Part::Fresh(98, 212)])?;
+    let value = of_parts(
+        rt.alloc(),
+        &[Part::Fresh(97, 300), Part::Zeros(9), Part::Fresh(98, 212)],
+    )?;
     assert!(rt; due(&value, 511));
     assert!(rt; due(&value, 512));
     assert!(rt; !due(&value, 513));
