@@ -13,5 +13,3 @@ mod room_map;
 mod row_locks;
 #[cfg(test)]
 mod sorted_map;
-#[cfg(test)]
-mod versions;
