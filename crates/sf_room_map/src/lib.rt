@@ -5,6 +5,6 @@ mod change;
 mod key;
 mod room_map;
 
-pub use change::Change;
+pub use change::{Change, Exchange, KeyTest};
 pub use key::RoomKey;
 pub use room_map::RoomMap;

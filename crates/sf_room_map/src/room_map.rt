@@ -1,5 +1,5 @@
 //! A map over hashed keys, seen as its entries in the order of their keys.
-ghost use Rattle.std.specs.Prelude.{◌≡◌, ◌+◌, ◌≤◌, ◌<◌, ◌^◌, [], length, map, is_some, IsTrue, ◌↔◌, IsSome, Some, IfOk, OnOk};
+ghost use Rattle.std.specs.Prelude.{◌≡◌, ◌+◌, ◌≤◌, ◌<◌, ◌^◌, [], length, map, is_some, IsTrue, ◌↔◌, IsSome, Some, IfSome, IfOk, OnOk};
 ghost use Rattle.std.specs.Option.{option_copied};
 ghost use Rattle.std.specs.Map.{keys_of};
 ghost use Rattle.std.specs.Map.Iter.{deref_pair};
@@ -7,7 +7,7 @@ ghost use Rattle.std.specs.List.Sorted.{IsStrictlySortedBy};
 ghost use Rattle.sf_types.specs.Rooms.{MakesRoom, GrowsWithin};
 ghost use Rattle.sf_room_map.specs.Entries.{value_for, with_value, without_key, added_at};
 
-use crate::change::Change;
+use crate::change::{Change, Exchange};
 use crate::key::RoomKey;
 use sf_types::Mem;
 use std::alloc::Global;
@@ -97,6 +97,19 @@ impl<K: RoomKey, V> RoomMap<K, V> {
             unreachable!();
         };
         mem::replace(held, value)
+    }
+
+    /// Exchanges the value at a key that is there with another object, by one look. It takes no memory.
+    pub fn exchange<E: Exchange<V>>(&mut self, key: &K, other: &mut E)
+        requires { IsSome (value_for K.cmp self.old.held key.now) }
+        ensures held { IfSome (value_for K.cmp self.old.held key.now) (λ value. self.new.held ≡ with_value K.cmp self.old.held key.now (E.given other.old value)) }
+        ensures taken { IfSome (value_for K.cmp self.old.held key.now) (λ value. other.new ≡ E.taken other.old value) }
+        ensures spare { self.new.spare ≡ self.old.spare }
+    {
+        let Some(value) = self.entries.get_mut(key) else {
+            unreachable!();
+        };
+        other.exchange(value);
     }
 
     /// The entries, in the order of their keys. It takes time n log n.
