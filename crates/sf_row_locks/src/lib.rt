@@ -1,7 +1,6 @@
 //! Which session holds which row's lock.
 #![tactic(auto)]
 
-mod row_key;
 mod row_locks;
 mod slot;
 

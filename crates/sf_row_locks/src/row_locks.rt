@@ -7,9 +7,8 @@ ghost use Rattle.sf_types.specs.Table.Sessions.{is_busy, without_locks};
 ghost use Rattle.sf_row_locks.specs.Locks.{locks_asked, locks_added, locks_released};
 ghost use Rattle.sf_row_locks.specs.Inside.Slots.{slot_of, row_in, row_count, locks_in, AreSlotted, ReleasesOne};
 
-use crate::row_key::RowKey;
 use crate::slot::Slot;
-use sf_room_map::RoomMap;
+use sf_room_map::{RoomMap, RowKey};
 use sf_types::{Mem, Name};
 use std::alloc::Global;
 use std::marker::Model;

@@ -7,14 +7,14 @@ ghost use Rattle.std.specs.Cmp.Lexicographic.{pointwise, slice_cmp, nat_list_cmp
 ghost use Rattle.std.specs.FinMap.{nat_cmp-IsAntisymmetric, slice_cmp-IsAntisymmetric};
 ghost use Rattle.std.proofs.Common.{ap, sym};
 
-use sf_room_map::RoomKey;
+use crate::key::RoomKey;
 use sf_types::{Name, ROW_NAME_BYTES};
 use std::cmp::Ordering;
 use std::hash::{Hash, Hasher};
 use std::marker::Model;
 
-/// The bytes of a row's name, seen as their list. A name is kept twice, as a key and in its session's rows, and to copy it so
-/// takes no memory.
+/// The bytes of a row's name, seen as their list. They stand in the key itself, so that to make a key of a name, and another of
+/// a key, takes no memory.
 #[derive(Drop)]
 pub struct RowKey {
     bytes: [u8; ROW_NAME_BYTES],
