@@ -1,6 +1,6 @@
 -- How counts change.
 use Rattle.std.proofs.Common.{◌≡◌, ℕ, zero, suc, ◌+◌, ◌-◌, ◌^◌, ◌<◌, ◌≤◌, Bool, true, false, cond, nat_lt, List, [], ◌∷◌, length, flat_map, take, get_or, eqb, Option, Some, None, refl, sym, ap, ◌∙◌, arith, length-append}
-use Rattle.std.specs.Prelude.{◌==◌, ◌||◌, ◌≢◌, AllPairs}
+use Rattle.std.specs.Prelude.{◌==◌, ◌||◌, ◌≢◌, AllPairs, min}
 use Rattle.std.specs.List.{list_any, sum_by, count_by, AllByRecursion, IsDistinct}
 use Rattle.std.specs.Ordering.{nat_cmp}
 use Rattle.std.specs.Cmp.{nat_cmp_total, unsigned_ties, unsigned_Decides}
@@ -17,7 +17,7 @@ use Rattle.sf_types.specs.declared.run.Run.{Run}
 use Rattle.sf_types.specs.Inside.Births.{IsBelowAll, IsRising}
 use Rattle.sf_types.specs.Space.BlockRuns.{blocks_in}
 use Rattle.sf_types.proofs.NumberLemmas.{same_number, own_number, less}
-use Rattle.sf_lifetimes.specs.declared.place_map.Counted.{Counted}
+use Rattle.sf_lifetimes.specs.declared.counted.Counted.{Counted}
 use Rattle.sf_lifetimes.specs.Ledgers.{has_birth}
 use Rattle.sf_lifetimes.specs.Inside.Counts.{CountedMap, IsCounted, IsFree, without_holder, IsChangedAt, with_one_fewer, live_in, times, holders_in, runs_in, last_births, lone_births, runs_of_births}
 use Rattle.sf_lifetimes.proofs.MapSumLemmas.{weight, weight-le, sum-insert, sum-remove, no_values}
@@ -100,11 +100,22 @@ changed_at change m b c is q =
 abbrev pub with_holders : Counted → ℕ → Counted
 with_holders c h = record { runs = c.runs; holders = h }
 
+-- what has a holder is there
+pub held_is : (x : Option Counted) → 1 ≤ holders_in x → (c : Counted) × (x ≡ Some c)
+held_is None some = absurd (omega (arith, some))
+held_is (Some c) some = (c, refl)
+
 -- a place that stands in a map has no more than 2^32 blocks
 pub few_in_place : (m : CountedMap) (live b : ℕ) (c : Counted) → fin.get m b ≡ Some c → IsCounted m live → length (blocks_in c.runs) ≤ 2 ^ 32
 few_in_place m live b c is counted =
     few_numbers (blocks_in c.runs) (2 ^ 32)
     (λ x. omega (arith, counted.once x, weight-le nat_cmp nat_cmp_total nat_cmp-IsAntisymmetric (times x) m b, ap (weight (times x)) is))
+
+pub few_at : (m : CountedMap) (live b : ℕ) → IsCounted m live → length (blocks_in (runs_in (fin.get m b))) ≤ 2 ^ 32
+few_at m live b counted = elim (fin.get m b) as (λ x. fin.get m b ≡ x → length (blocks_in (runs_in x)) ≤ 2 ^ 32) [
+  | None ↦ λ _. omega arith
+  | Some c ↦ λ is. few_in_place m live b c is counted
+] refl
 
 -- a place keeps its blocks, and its number of holders is another
 pub recounted : (m : CountedMap) (live new : ℕ) (b : ℕ) (c : Counted) (h : ℕ) → fin.get m b ≡ Some c → IsCounted m live → new + live_in c ≡ live + live_in (with_holders c h) → IsCounted (fin.insert m b (with_holders c h)) new
@@ -126,6 +137,16 @@ raised_live live c =
     by_cases : (t : Bool) (size : ℕ) → cond t size 0 + cond t 0 size ≡ size
     by_cases true size = omega arith
     by_cases false size = omega arith
+
+-- a count that is far below its bound rises by one
+pub one_more : (c : Counted) → c.holders < 2 ^ 63 → with_holders c (min (c.holders + 1) (2 ^ 64 - 1)) ≡ with_holders c (c.holders + 1)
+one_more c few = ap (with_holders c) (grind (arith, nat_tests, few))
+
+pub gained : (old : Counted) (before blocks h : ℕ) (x : Option Counted) → before ≡ old.holders → x ≡ Some (with_holders old h) → blocks ≡ cond (before == 0) (length (blocks_in (runs_in x))) 0 → blocks ≡ cond (old.holders == 0) (length (blocks_in old.runs)) 0
+gained old before blocks h x held is gain =
+    gain
+    ∙ ap (λ k. cond (k == 0) (length (blocks_in (runs_in x))) 0) held
+    ∙ ap (λ y. cond (old.holders == 0) (length (blocks_in (runs_in y))) 0) is
 
 -- one holder fewer leaves a place live where it had more
 pub lowered_live : (c : Counted) → 2 ≤ c.holders → live_in c ≡ live_in (with_holders c (c.holders - 1))

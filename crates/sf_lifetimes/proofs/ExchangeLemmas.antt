@@ -3,7 +3,7 @@ use Rattle.std.proofs.Common.{◌≡◌, ℕ, ◌+◌, ◌-◌, ◌≤◌, Bool,
 use Rattle.std.specs.Prelude.{◌==◌, is_some}
 use Rattle.std.specs.FinMap as fin
 use Rattle.std.proofs.lemmas.Bool.Decides.{nat_tests}
-use Rattle.sf_lifetimes.specs.declared.place_map.Counted.{Counted}
+use Rattle.sf_lifetimes.specs.declared.counted.Counted.{Counted}
 use Rattle.sf_lifetimes.specs.Inside.Counts.{CountedMap, AreChangedBut, AreExchanged, AreFew, AreHeld, with_one_more, with_one_fewer, holders_in}
 use Rattle.sf_lifetimes.specs.Ledgers.{has_birth}
 use Rattle.sf_types.proofs.NumberLemmas.{same_number}

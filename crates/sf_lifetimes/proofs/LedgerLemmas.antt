@@ -21,7 +21,7 @@ use Rattle.sf_types.specs.Inside.Holders.{holder_cmp, holder_cmp_total, holder_c
 use Rattle.sf_types.specs.Space.BlockRuns.{blocks_in}
 use Rattle.sf_types.proofs.NameMapLemmas.{equal}
 use Rattle.sf_types.proofs.NumberLemmas.{same_number, own_number}
-use Rattle.sf_lifetimes.specs.declared.place_map.Counted.{Counted}
+use Rattle.sf_lifetimes.specs.declared.counted.Counted.{Counted}
 use Rattle.sf_lifetimes.specs.Ledgers.{Places, Holdings, has_birth, held_by, number_of_holders, live_places, waiting_places, with_births, with_holding, unheld_births, unheld_places, live_blocks, number_of_blocks, place_of, occupied_blocks, IsNewPlace}
 use Rattle.sf_lifetimes.specs.Inside.Counts.{CountedMap, AreExchanged, AreFew, AreHeld, with_one_more, with_one_fewer, holders_in, runs_in, live_runs, lone_births, runs_of_births, live_in, live_sum, without_holder, times, IsFree}
 use Rattle.sf_lifetimes.specs.Inside.Counted.{places_in, live_places_in, waiting_places_in, IsCountedBy}

@@ -1,8 +1,7 @@
 pub mod MapSumLemmas
-pub mod HashMapLemmas
-pub mod BirthMapLemmas
-pub mod HolderMapLemmas
+pub mod EntryMapLemmas
 pub mod CountLemmas
+pub mod HolderCountLemmas
 pub mod ExchangeLemmas
 pub mod LedgerLemmas
 pub mod ListingLemmas

@@ -1,14 +1,12 @@
 -- The places of a ledger in order, and their blocks.
 use Rattle.std.proofs.Common.{◌≡◌, ℕ, ◌+◌, ◌^◌, ◌≤◌, ◌<◌, Bool, true, false, cond, nat_lt, List, [], ◌∷◌, ◌++◌, map, flat_map, Option, Some, None, refl, sym, ap, subst, ◌∙◌, arith}
-use Rattle.std.specs.Prelude.{◌==◌, ◌||◌, ◌≢◌, is_some, T, All, AllPairs}
+use Rattle.std.specs.Prelude.{◌==◌, ◌≢◌, T, All, AllPairs}
 use Rattle.std.specs.List.{sum_by, count_by, AllByRecursion}
-use Rattle.std.specs.List.Sorted.{IsStrictlySortedBy}
 use Rattle.std.specs.Ordering.{nat_cmp, is_eq}
 use Rattle.std.specs.declared.cmp.Ordering.TheVariants.{Less}
 use Rattle.std.specs.Cmp.{nat_cmp_total, ranked, unsigned_Decides}
-use Rattle.std.specs.Map.{keys_of, lookup}
 use Rattle.std.specs.FinMap as fin
-use Rattle.std.specs.FinMap.{nat_cmp-IsAntisymmetric, entries, entries_sorted, get-entries}
+use Rattle.std.specs.FinMap.{nat_cmp-IsAntisymmetric, entries, entries_sorted, get-entries, get-from_entries}
 use Rattle.std.specs.FinMap.Entries.{find, is_sorted, below_all, same_entries}
 use Rattle.std.proofs.lemmas.List.Elements.{All-from_recursion}
 use Rattle.std.proofs.lemmas.List.Sums.{sum_by-cons, sum_by-append}
@@ -17,17 +15,17 @@ use Rattle.sf_types.specs.declared.birth_runs.BirthRuns.{BirthRuns}
 use Rattle.sf_types.specs.declared.run.Run.{Run}
 use Rattle.sf_types.specs.Inside.Births.{IsBelowAll, IsRising}
 use Rattle.sf_types.specs.Space.BlockRuns.{blocks_in}
-use Rattle.sf_types.proofs.BoolLemmas.{first, second}
-use Rattle.sf_types.proofs.NumberLemmas.{own_number, same_number}
+use Rattle.sf_types.proofs.BoolLemmas.{first, second, both}
+use Rattle.sf_types.proofs.NumberLemmas.{own_number}
 use Rattle.sf_shrink.specs.Plans.{blocks_of_places, ArePlaced}
-use Rattle.sf_lifetimes.specs.declared.place_map.Counted.{Counted}
-use Rattle.sf_lifetimes.specs.Ledgers.{has_birth, occupied_blocks}
-use Rattle.sf_lifetimes.specs.Inside.Counts.{CountedMap, IsCounted, live_runs, or_else, times}
+use Rattle.sf_lifetimes.specs.declared.counted.Counted.{Counted}
+use Rattle.sf_lifetimes.specs.Ledgers.{occupied_blocks}
+use Rattle.sf_lifetimes.specs.Inside.Counts.{CountedMap, IsCounted, live_runs, live_place, times}
 use Rattle.sf_lifetimes.specs.Inside.Counted.{live_places_in, waiting_places_in}
-use Rattle.sf_lifetimes.proofs.MapSumLemmas.{weight, same_sum}
+use Rattle.sf_lifetimes.proofs.MapSumLemmas.{weight, same_sum, find-below, below-tied}
 use Rattle.sf_lifetimes.proofs.CountLemmas.{distinct, below, once_below}
 use Rattle.sf_lifetimes.proofs.LedgerLemmas.{waiting_runs, get_live, get_waiting}
-use Rattle.sf_types.proofs.NameMapLemmas.{ordering_less, sorted_from_ordered}
+use Rattle.sf_types.proofs.NameMapLemmas.{equal, ordering_less}
 
 -- how many times runs name a block
 abbrev pub times_named : ℕ → List Run → ℕ
@@ -106,49 +104,57 @@ are_placed m live counted =
       once = subst (AllPairs (λ x y. x ≢ y)) (sym (listed_blocks es)) (AllPairs-from_IsDistinct unsigned_Decides xs (distinct xs (λ x. omega (arith, counted.once x, times_in m x, once_below x (2 ^ 32)))));
     }
 
--- ---- the tree of live places
-pub find_in_tree : {X : Type 0} (es : List (ℕ × X)) (q : ℕ) → find nat_cmp q es ≡ lookup (λ k. is_eq (nat_cmp q k)) es
-find_in_tree [] q = refl
-find_in_tree (e ∷ es) q = ap (cond (is_eq (nat_cmp q e.0)) (Some e.1)) (find_in_tree es q)
+-- ---- the list of places, entry by entry
+abbrev pub listed : List (ℕ × Counted) → List BirthRuns
+listed [] = []
+listed (e ∷ es) = live_place e.0 (live_runs (Some e.1)) ++ listed es
 
--- a tree that finds just the live places has their entries
-pub tree_entries : (m : CountedMap) (es : List (ℕ × List Run)) → IsStrictlySortedBy nat_cmp (keys_of es) → ((q : ℕ) → lookup (λ k. is_eq (nat_cmp q k)) es ≡ live_runs (fin.get m q)) → es ≡ entries (live_places_in m)
-tree_entries m es ordered finds =
-    same_entries nat_cmp nat_cmp_total nat_cmp-IsAntisymmetric es (entries (live_places_in m)) (sorted_from_ordered nat_cmp es ordered) (entries_sorted (live_places_in m))
-    (λ q. find_in_tree es q ∙ finds q ∙ sym (get_live m q) ∙ get-entries (live_places_in m) q)
+abbrev live_pairs : List (ℕ × Counted) → List (ℕ × List Run)
+live_pairs [] = []
+live_pairs (e ∷ es) = cond (e.1.holders == 0) (live_pairs es) ((e.0, e.1.runs) ∷ live_pairs es)
 
--- What a tree has once all keys but some were looked at: nothing but what is live, and all of that.
-pub record Finds (live found : ℕ → Option (List Run)) (rest : List ℕ) : Type 0 where
-  pub sound : (q : ℕ) (r : List Run) → found q ≡ Some r → live q ≡ Some r
-  pub all : (q : ℕ) → has_birth rest q ≡ false → found q ≡ live q
+listed_pairs : (es : List (ℕ × Counted)) → listed es ≡ map to_place (live_pairs es)
+listed_pairs [] = refl
+listed_pairs (e ∷ es) =
+    elim (e.1.holders == 0) as (λ t. live_place e.0 (cond t None (Some e.1.runs)) ++ listed es ≡ map to_place (cond t (live_pairs es) ((e.0, e.1.runs) ∷ live_pairs es))) [
+      | true ↦ listed_pairs es
+      | false ↦ ap (λ (xs : List BirthRuns). to_place (e.0, e.1.runs) ∷ xs) (listed_pairs es)
+    ]
 
-pub finds_none : (live found : ℕ → Option (List Run)) (keys : List ℕ) → ((q : ℕ) → found q ≡ None) → ((q : ℕ) → has_birth keys q ≡ false → live q ≡ None) → Finds live found keys
-finds_none live found keys none absent = record {
-  sound = λ q r is. let bad : None ≡ Some r = sym (none q) ∙ is in absurd cc;
-  all = λ q out. none q ∙ sym (absent q out);
-}
+below_pairs : (x : ℕ) (es : List (ℕ × Counted)) → T (below_all nat_cmp x es) → T (below_all nat_cmp x (live_pairs es))
+below_pairs x [] below = tt
+below_pairs x (e ∷ es) below =
+    let rest = below_pairs x es (second _ _ below) in
+    elim (e.1.holders == 0) as (λ t. T (below_all nat_cmp x (cond t (live_pairs es) ((e.0, e.1.runs) ∷ live_pairs es)))) [ true ↦ rest | false ↦ both _ _ (first _ _ below) rest ]
 
-pub finds_more : (live before after : ℕ → Option (List Run)) (x : ℕ) (left rest : List ℕ) → left ≡ x ∷ rest → ((q : ℕ) → after q ≡ cond (q == x) (or_else (live x) (before q)) (before q)) → Finds live before left → Finds live after rest
-finds_more live before after x left rest is step finds = record {
-  sound = λ q r has. elim (q == x) as (λ t. (q == x) ≡ t → cond t (or_else (live x) (before q)) (before q) ≡ Some r → live q ≡ Some r) [
-    | true ↦ λ t has. ap live (same_number q x t) ∙ own q r (same_number q x t) (live x) refl has
-    | false ↦ λ _ has. finds.sound q r has
-  ] refl (sym (step q) ∙ has);
-  all = λ q out. step q ∙ elim (q == x) as (λ t. (q == x) ≡ t → cond t (or_else (live x) (before q)) (before q) ≡ live q) [
-    | true ↦ λ t. now q (same_number q x t) (live x) refl (before q) refl ∙ ap live (sym (same_number q x t))
-    | false ↦ λ t. finds.all q (ap (λ xs. has_birth xs q) is ∙ ap (λ b. b || has_birth rest q) t ∙ out)
-  ] refl;
-}
-  where
-    own : (q : ℕ) (r : List Run) → q ≡ x → (o : Option (List Run)) → live x ≡ o → or_else o (before q) ≡ Some r → live x ≡ Some r
-    own q r same None at has = ap live (sym same) ∙ finds.sound q r has
-    own q r same (Some s) at has = at ∙ has
+sorted_pairs : (es : List (ℕ × Counted)) → T (is_sorted nat_cmp es) → T (is_sorted nat_cmp (live_pairs es))
+sorted_pairs [] sorted = tt
+sorted_pairs (e ∷ es) sorted =
+    let rest = sorted_pairs es (second _ _ sorted) in
+    elim (e.1.holders == 0) as (λ t. T (is_sorted nat_cmp (cond t (live_pairs es) ((e.0, e.1.runs) ∷ live_pairs es)))) [ true ↦ rest | false ↦ both _ _ (below_pairs e.0 es (first _ _ sorted)) rest ]
 
-    now : (q : ℕ) → q ≡ x → (o : Option (List Run)) → live x ≡ o → (b : Option (List Run)) → before q ≡ b → or_else o b ≡ live x
-    now q same (Some s) at b had = sym at
-    now q same None at None had = sym at
-    now q same None at (Some r) had = let bad : None ≡ Some r = sym at ∙ ap live (sym same) ∙ finds.sound q r had in absurd cc
+find_pairs : (es : List (ℕ × Counted)) (q : ℕ) → T (is_sorted nat_cmp es) → find nat_cmp q (live_pairs es) ≡ live_runs (find nat_cmp q es)
+find_pairs [] q sorted = refl
+find_pairs (e ∷ es) q sorted =
+    let rest = find_pairs es q (second _ _ sorted) in
+    elim (e.1.holders == 0) as (λ t. (e.1.holders == 0) ≡ t → find nat_cmp q (cond t (live_pairs es) ((e.0, e.1.runs) ∷ live_pairs es)) ≡ live_runs (cond (is_eq (nat_cmp q e.0)) (Some e.1) (find nat_cmp q es))) [
+      | true ↦ λ none. elim (is_eq (nat_cmp q e.0)) as (λ b. is_eq (nat_cmp q e.0) ≡ b → find nat_cmp q (live_pairs es) ≡ live_runs (cond b (Some e.1) (find nat_cmp q es))) [
+        | true ↦ λ tie.
+            rest ∙ ap live_runs (find-below nat_cmp nat_cmp_total q es (below-tied nat_cmp nat_cmp_total q e.0 es (equal _ tie) (first _ _ sorted)))
+            ∙ sym (ap (λ b. cond b None (Some e.1.runs)) none)
+        | false ↦ λ _. rest
+      ] refl
+      | false ↦ λ some. elim (is_eq (nat_cmp q e.0)) as (λ b. cond b (Some e.1.runs) (find nat_cmp q (live_pairs es)) ≡ live_runs (cond b (Some e.1) (find nat_cmp q es))) [
+        | true ↦ sym (ap (λ b. cond b None (Some e.1.runs)) some)
+        | false ↦ rest
+      ]
+    ] refl
 
-pub no_entry : {X : Type 0} (o : Option X) → is_some o ≡ false → o ≡ None
-no_entry None is = refl
-no_entry (Some x) is = absurd cc
+-- the live ones of entries whose keys rise are the entries of the live places
+pub places_listed : (es : List (ℕ × Counted)) → T (is_sorted nat_cmp es) → listed es ≡ map to_place (entries (live_places_in (fin.from_entries es)))
+places_listed es sorted =
+    let m : CountedMap = fin.from_entries es in
+    listed_pairs es
+    ∙ ap (λ (ps : List (ℕ × List Run)). map to_place ps)
+    (same_entries nat_cmp nat_cmp_total nat_cmp-IsAntisymmetric (live_pairs es) (entries (live_places_in m)) (sorted_pairs es sorted) (entries_sorted (live_places_in m))
+    (λ q. find_pairs es q sorted ∙ ap live_runs (sym (get-from_entries nat_cmp_total es q)) ∙ sym (get_live m q) ∙ get-entries (live_places_in m) q))

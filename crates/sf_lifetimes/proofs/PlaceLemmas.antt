@@ -11,7 +11,7 @@ use Rattle.std.proofs.lemmas.List.Sums.{sum_by-take-le, length-filter}
 use Rattle.sf_types.specs.declared.birth_runs.BirthRuns.{BirthRuns}
 use Rattle.sf_types.specs.Inside.Births.{IsRising}
 use Rattle.sf_types.proofs.NumberLemmas.{same_number, less as is_less, not_less}
-use Rattle.sf_lifetimes.specs.declared.place_map.Counted.{Counted}
+use Rattle.sf_lifetimes.specs.declared.counted.Counted.{Counted}
 use Rattle.sf_lifetimes.specs.Inside.Counts.{CountedMap, IsChangedAt, AreChangedBut, holders_in, runs_in, last_births, lone_births, runs_of_births}
 use Rattle.sf_lifetimes.specs.Inside.Places.{AreBelow, IsPlaceOf}
 use Rattle.sf_lifetimes.specs.Ledgers.{has_birth}

@@ -1,20 +1,23 @@
 -- What shifts leave.
 use Rattle.std.proofs.Common.{◌≡◌, ℕ, ◌+◌, ◌^◌, ◌≤◌, Bool, true, false, cond, nat_lt, List, [], ◌∷◌, ◌++◌, map, flat_map, Option, Some, None, refl, sym, ap, subst, ◌∙◌, arith}
-use Rattle.std.specs.Prelude.{◌==◌, T, Contains}
+use Rattle.std.specs.Prelude.{◌==◌, T, All, Contains, IsSome}
 use Rattle.std.specs.List.{sum_by, count_by}
 use Rattle.std.specs.Option.{option_map}
-use Rattle.std.specs.Ordering.{nat_cmp}
+use Rattle.std.specs.Ordering.{nat_cmp, is_eq}
 use Rattle.std.specs.Cmp.{nat_cmp_total, unsigned_ties}
 use Rattle.std.specs.FinMap as fin
-use Rattle.std.specs.FinMap.{nat_cmp-IsAntisymmetric, same_map, entries, entries_sorted, get-entries, get-insert}
+use Rattle.std.specs.FinMap.{nat_cmp-IsAntisymmetric, same_map, entries, entries_sorted, get-entries}
 use Rattle.std.specs.FinMap.Entries.{find, is_sorted, same_entries}
-use Rattle.std.proofs.lemmas.List.Elements.{recursion_from_All}
+use Rattle.std.proofs.lemmas.Cmp.{tied_itself}
+use Rattle.std.proofs.lemmas.List.Elements.{recursion_from_All, All-nil, All-cons, All-weaker}
 use Rattle.sf_types.specs.declared.run.Run.{Run}
 use Rattle.sf_types.specs.Space.BlockRuns.{blocks_in}
 use Rattle.sf_types.proofs.NumberLemmas.{same_number}
+use Rattle.sf_room_map.specs.Entries.{value_for, with_value}
+use Rattle.sf_room_map.proofs.EntryLemmas.{value_for-with}
 use Rattle.sf_shrink.specs.declared.shifts.Shift.{Shift}
 use Rattle.sf_shrink.specs.Plans.{blocks_of_shifts}
-use Rattle.sf_lifetimes.specs.declared.place_map.Counted.{Counted}
+use Rattle.sf_lifetimes.specs.declared.counted.Counted.{Counted}
 use Rattle.sf_lifetimes.specs.Ledgers.{Holdings, LedgerView, live_places, waiting_places, occupied_blocks}
 use Rattle.sf_lifetimes.specs.Shifts.{AreSafeShifts}
 use Rattle.sf_lifetimes.specs.Inside.Counts.{CountedMap, IsCounted, holders_in, live_runs, live_in, live_sum, times, with_runs, with_shifts}
@@ -119,7 +122,25 @@ waiting_moved (Some c) (Some d) to held is sizes =
       | false ↦ λ some. refl
     ] sizes
 
-module _ (m n : CountedMap) (ss : List Shift) (safe : AreSafeShifts (live_places_in m) (waiting_places_in m) ss) (changed : (q : ℕ) → fin.get n q ≡ with_shifts ss q (fin.get m q)) where
+-- a list of shifts finds each birth that it names
+later_found : (t : Bool) (to : List Run) (x : Option (List Run)) → IsSome x → IsSome (cond t (Some to) x)
+later_found true to x found = refl
+later_found false to x found = found
+
+all_found : (ss : List Shift) → All (λ s. IsSome (find nat_cmp s.birth (map to_pair ss))) ss
+all_found [] = All-nil (λ (s : Shift). IsSome (find nat_cmp s.birth (map to_pair [])))
+all_found (s ∷ ss) =
+    All-cons (λ r. IsSome (find nat_cmp r.birth (map to_pair (s ∷ ss)))) s ss
+    (subst (λ r. IsSome (cond (is_eq r) (Some s.to) (find nat_cmp s.birth (map to_pair ss)))) (sym (tied_itself nat_cmp_total s.birth)) refl)
+    (All-weaker (λ r. IsSome (find nat_cmp r.birth (map to_pair ss))) (λ r. IsSome (find nat_cmp r.birth (map to_pair (s ∷ ss))))
+    (λ r found. later_found (is_eq (nat_cmp r.birth s.birth)) s.to (find nat_cmp r.birth (map to_pair ss)) found) ss (all_found ss))
+
+placed : (x : Option Counted) (to : Option (List Run)) → IsSome to → option_map size to ≡ option_map size (live_runs x) → IsSome x
+placed (Some c) to found is = refl
+placed None None found is = absurd cc
+placed None (Some to) found is = absurd cc
+
+module _ (m : CountedMap) (ss : List Shift) (safe : AreSafeShifts (live_places_in m) (waiting_places_in m) ss) where
   sized_is : map {B = ℕ × ℕ} (λ e. (e.0, size e.1)) (map to_pair ss) ≡ map {B = ℕ × ℕ} (λ e. (e.0, size e.1)) (entries (live_places_in m))
   sized_is = sized_pairs ss ∙ safe.births
 
@@ -131,6 +152,13 @@ module _ (m n : CountedMap) (ss : List Shift) (safe : AreSafeShifts (live_places
       sym (find_values size q (map to_pair ss)) ∙ ap (find nat_cmp q) sized_is ∙ find_values size q (entries (live_places_in m))
       ∙ ap (option_map size) (sym (get-entries (live_places_in m) q) ∙ get_live m q)
 
+  -- each birth that safe shifts name has a place
+  pub all_placed : All (λ s. IsSome (fin.get m s.birth)) ss
+  all_placed =
+      All-weaker (λ s. IsSome (find nat_cmp s.birth (map to_pair ss))) (λ s. IsSome (fin.get m s.birth))
+      (λ s found. placed (fin.get m s.birth) (find nat_cmp s.birth (map to_pair ss)) found (sizes_at s.birth)) ss (all_found ss)
+
+module _ (m n : CountedMap) (ss : List Shift) (safe : AreSafeShifts (live_places_in m) (waiting_places_in m) ss) (changed : (q : ℕ) → fin.get n q ≡ with_shifts ss q (fin.get m q)) where
   runs_now : (q : ℕ) → runs_at (fin.get n q) ≡ pick (fin.get m q) (find nat_cmp q (map to_pair ss))
   runs_now q = ap runs_at (changed q) ∙ runs_shifted ss q (fin.get m q)
 
@@ -138,17 +166,17 @@ module _ (m n : CountedMap) (ss : List Shift) (safe : AreSafeShifts (live_places
   same_holders q = ap holders_in (changed q) ∙ holders_shifted ss q (fin.get m q)
 
   live_now : (q : ℕ) → live_runs (fin.get n q) ≡ find nat_cmp q (map to_pair ss)
-  live_now q = live_moved (fin.get m q) (fin.get n q) (find nat_cmp q (map to_pair ss)) (same_holders q) (runs_now q) (sizes_at q)
+  live_now q = live_moved (fin.get m q) (fin.get n q) (find nat_cmp q (map to_pair ss)) (same_holders q) (runs_now q) (sizes_at m ss safe q)
 
   pub entries_shifted : entries (live_places_in n) ≡ map to_pair ss
   entries_shifted =
-      same_entries nat_cmp nat_cmp_total nat_cmp-IsAntisymmetric (entries (live_places_in n)) (map to_pair ss) (entries_sorted (live_places_in n)) pairs_sorted
+      same_entries nat_cmp nat_cmp_total nat_cmp-IsAntisymmetric (entries (live_places_in n)) (map to_pair ss) (entries_sorted (live_places_in n)) (pairs_sorted m ss safe)
       (λ q. sym (get-entries (live_places_in n) q) ∙ get_live n q ∙ live_now q)
 
   pub waiting_stays : waiting_places_in n ≡ waiting_places_in m
   waiting_stays = same_map nat_cmp_total nat_cmp-IsAntisymmetric _ _ (λ q.
       get_waiting n q
-      ∙ waiting_moved (fin.get m q) (fin.get n q) (find nat_cmp q (map to_pair ss)) (same_holders q) (runs_now q) (sizes_at q)
+      ∙ waiting_moved (fin.get m q) (fin.get n q) (find nat_cmp q (map to_pair ss)) (same_holders q) (runs_now q) (sizes_at m ss safe q)
       ∙ sym (get_waiting m q))
 
   pub shifted_counted_by : (holdings : Holdings) → IsCountedBy m holdings → IsCountedBy n holdings
@@ -157,7 +185,7 @@ module _ (m n : CountedMap) (ss : List Shift) (safe : AreSafeShifts (live_places
   live_shifted : live_sum n ≡ live_sum m
   live_shifted = same_sum nat_cmp nat_cmp_total nat_cmp-IsAntisymmetric live_in live_in n m (λ q.
       live_weight (fin.get n q)
-      ∙ same_weight (live_runs (fin.get n q)) (live_runs (fin.get m q)) (ap (option_map size) (live_now q) ∙ sizes_at q)
+      ∙ same_weight (live_runs (fin.get n q)) (live_runs (fin.get m q)) (ap (option_map size) (live_now q) ∙ sizes_at m ss safe q)
       ∙ sym (live_weight (fin.get m q)))
 
   times_shifted : (block : ℕ) → sum_by (times block) (fin.values n) ≡ count_by (λ y. block == y) (blocks_of_shifts ss) + count_by (λ y. block == y) (occupied_blocks (waiting_places_in m))
@@ -190,23 +218,22 @@ safe_by_counts m holdings l ss counted is safe =
     subst (λ live. AreSafeShifts live (waiting_places_in m) ss) (sym (live_is m holdings counted))
     (subst (λ waiting. AreSafeShifts (live_places (record { places = places_in m; holdings = holdings })) waiting ss) (sym (waiting_is m holdings counted)) own)
 
--- one birth moves, or has no place
-pub moved_some : (m : CountedMap) (b q : ℕ) (to : List Run) (c : Counted) → fin.get m b ≡ Some c → fin.get (fin.insert m b (record { runs = to; holders = c.holders })) q ≡ cond (q == b) (with_runs to (fin.get m q)) (fin.get m q)
-moved_some m b q to c is =
+-- one birth moves
+pub moved : (es : List (ℕ × Counted)) (b q : ℕ) (to : List Run) (c : Counted) → value_for nat_cmp es b ≡ Some c
+    → value_for nat_cmp (with_value nat_cmp es b (record { runs = to; holders = c.holders })) q ≡ cond (q == b) (with_runs to (value_for nat_cmp es q)) (value_for nat_cmp es q)
+moved es b q to c is =
     let d : Counted = record { runs = to; holders = c.holders } in
-    get-insert nat_cmp_total m b d q
-    ∙ ap (λ t. cond t (Some d) (fin.get m q)) (sym (unsigned_ties q b))
-    ∙ elim (q == b) as (λ t. (q == b) ≡ t → cond t (Some d) (fin.get m q) ≡ cond t (with_runs to (fin.get m q)) (fin.get m q)) [
-      | true ↦ λ t. ap (with_runs to) (sym (ap (fin.get m) (same_number q b t) ∙ is))
+    value_for-with nat_cmp nat_cmp_total es b d q
+    ∙ ap (λ t. cond t (Some d) (value_for nat_cmp es q)) (sym (unsigned_ties q b))
+    ∙ elim (q == b) as (λ t. (q == b) ≡ t → cond t (Some d) (value_for nat_cmp es q) ≡ cond t (with_runs to (value_for nat_cmp es q)) (value_for nat_cmp es q)) [
+      | true ↦ λ t. ap (with_runs to) (sym (ap (value_for nat_cmp es) (same_number q b t) ∙ is))
       | false ↦ λ t. refl
     ] refl
 
-pub moved_none : (m : CountedMap) (b q : ℕ) (to : List Run) → fin.get m b ≡ None → fin.get m q ≡ cond (q == b) (with_runs to (fin.get m q)) (fin.get m q)
-moved_none m b q to is =
-    elim (q == b) as (λ t. (q == b) ≡ t → fin.get m q ≡ cond t (with_runs to (fin.get m q)) (fin.get m q)) [
-      | true ↦ λ t. let none = ap (fin.get m) (same_number q b t) ∙ is in none ∙ ap (with_runs to) (sym none)
-      | false ↦ λ t. refl
-    ] refl
+pub still_placed : (t : Bool) (to : List Run) (x : Option Counted) → IsSome x → IsSome (cond t (with_runs to x) x)
+still_placed t to None found = absurd cc
+still_placed true to (Some c) found = refl
+still_placed false to (Some c) found = found
 
 -- the last shift of those that are left is made
 pub shift_more : (rest before all : List Shift) (s : Shift) (q : ℕ) (cur next old : Option Counted) → before ≡ rest ++ s ∷ [] → next ≡ cond (q == s.birth) (with_runs s.to cur) cur → with_shifts before q cur ≡ with_shifts all q old → with_shifts rest q next ≡ with_shifts all q old

@@ -15,7 +15,7 @@ use Rattle.sf_types.specs.Inside.Holders.{holder_cmp, holder_cmp_total, holder_c
 use Rattle.sf_types.specs.Space.BlockRuns.{blocks_in}
 use Rattle.sf_types.proofs.NameMapLemmas.{equal}
 use Rattle.sf_types.proofs.NumberLemmas.{same_number}
-use Rattle.sf_lifetimes.specs.declared.place_map.Counted.{Counted}
+use Rattle.sf_lifetimes.specs.declared.counted.Counted.{Counted}
 use Rattle.sf_lifetimes.specs.declared.tally.Tally.{Tally}
 use Rattle.sf_lifetimes.specs.Ledgers.{Holdings, has_birth, held_by, number_of_holders, is_live, live_places, without_holders, freed_by}
 use Rattle.sf_lifetimes.specs.Inside.Counts.{CountedMap, AreHeld, holders_in, runs_in, live_runs, live_in, live_sum}

@@ -3,5 +3,6 @@ pub mod Bounds
 pub mod Codes
 pub mod Counted
 pub mod Counts
+pub mod Keys
 pub mod Tallies
 pub mod Places

@@ -1,38 +1,37 @@
 //! The births of each holder.
-ghost use Rattle.std.specs.Prelude.{◌≡◌, ◌≤◌, ◌<◌, ◌-◌, ◌^◌, ◌+◌, length, None, IsSome, OnOk, IsOk};
+ghost use Rattle.std.specs.Prelude.{◌≡◌, ◌≤◌, ◌<◌, ◌-◌, ◌^◌, ◌+◌, cond, length, None, is_some, OnOk, IsOk};
 ghost use Rattle.std.specs.Option.{option_copied};
 ghost use Rattle.std.specs.FinMap as fin;
 ghost use Rattle.sf_types.specs.Inside.Births.{IsRising};
 ghost use Rattle.sf_types.specs.Rooms.{MakesRoom};
 ghost use Rattle.sf_lifetimes.specs.Ledgers.{held_by, with_births};
 
-use crate::map_room::insert_within;
+use crate::holder_key::HolderKey;
+use sf_room_map::RoomMap;
 use sf_types::{Births, Holder, Mem};
 use std::alloc::Global;
-use std::collections::HashMap;
 use std::marker::Model;
 
 /// Holdings, seen as a finite map from holders to their births, with room for more holders.
 #[derive(Drop)]
 pub struct HoldingMap {
-    entries: HashMap<Holder, Births>,
+    entries: RoomMap<HolderKey, Births>,
 }
 
 impl Model for HoldingMap {
     ghost use Rattle.std.specs.FinMap as fin;
     ghost use Rattle.std.specs.Prelude.{ℕ, List};
-    ghost use Rattle.std.specs.HashMap.{spare};
     ghost use Rattle.sf_types.specs.Rooms.{Roomy};
     ghost use Rattle.sf_types.specs.Inside.Holders.{holder_cmp};
     ghost use Rattle.std.specs.Coded.{coded_ℕ, coded_list};
     ghost use Rattle.sf_types.specs.contracts.holder.Holder as holder;
-    ghost use Rattle.sf_lifetimes.specs.Inside.Codes.{roomy_code};
+    ghost use Rattle.sf_room_map.specs.Inside.Sorted.{roomy_code};
 
     ghost Value = { Roomy (fin.FinMap holder_cmp (List ℕ)) };
 
     ghost coded = { roomy_code (fin.code holder.the_row.coded (coded_list coded_ℕ)) };
 
-    ghost view = { λ m. record { held = fin.from_entries m.entries.entries; spare = spare m.entries } };
+    ghost view = { λ m. record { held = fin.from_entries m.entries.held; spare = m.entries.spare } };
 }
 
 impl HoldingMap {
@@ -41,7 +40,7 @@ impl HoldingMap {
         ensures { result.held ≡ fin.empty }
     {
         HoldingMap {
-            entries: HashMap::new(alloc),
+            entries: RoomMap::new(alloc),
         }
     }
 
@@ -49,15 +48,14 @@ impl HoldingMap {
     pub fn make_room(&mut self, count: u64) -> Mem<()>
         ensures { MakesRoom self.old self.new count result }
     {
-        self.entries.reserve(count as usize)?;
-        Ok(())
+        self.entries.make_room(count)
     }
 
     // The births of a holder.
     fn get(&self, holder: &Holder) -> Option<&Births>
         ensures { option_copied result ≡ fin.get self.now.held holder.now }
     {
-        self.entries.get(holder)
+        self.entries.get(&HolderKey::of(holder))
     }
 
     // Takes a holder out.
@@ -65,7 +63,9 @@ impl HoldingMap {
         ensures held { self.new.held ≡ fin.remove self.old.held holder.now }
         ensures spare { self.old.spare ≤ self.new.spare }
     {
-        self.entries.remove(holder);
+        // Each holder stands once among the entries, so that it is gone with the one.
+        let _ = self.entries.len();
+        self.entries.remove(&HolderKey::of(holder));
     }
 
     // Fewer holders than 2^63 hold births.
@@ -99,25 +99,13 @@ impl HoldingMap {
         Ok(())
     }
 
-    // Writes what a holder holds that is there. It takes no memory.
-    fn write(&mut self, holder: &Holder, births: Births)
-        requires { IsSome (fin.get self.old.held holder.now) }
+    // Puts the births of a holder in place of those that it had, within the room where the holder is new. It takes no memory.
+    fn insert(&mut self, holder: &Holder, births: Births)
+        requires { fin.get self.old.held holder.now ≡ None → 1 ≤ self.old.spare }
         ensures held { self.new.held ≡ fin.insert self.old.held holder.now births }
-        ensures spare { self.new.spare ≡ self.old.spare }
+        ensures spare { self.old.spare ≤ self.new.spare + cond (is_some (fin.get self.old.held holder.now)) 0 1 }
     {
-        let Some(held) = self.entries.get_mut(holder) else {
-            unreachable!();
-        };
-        *held = births;
-    }
-
-    // Puts what a holder holds within the room. It takes no memory.
-    fn insert(&mut self, holder: Holder, births: Births)
-        requires { 1 ≤ self.old.spare }
-        ensures held { self.new.held ≡ fin.insert self.old.held holder births }
-        ensures spare { self.old.spare ≤ self.new.spare + 1 }
-    {
-        insert_within(&mut self.entries, holder, births);
+        self.entries.insert_within(HolderKey::of(holder), births);
     }
 
     // Puts what a holder holds in place of what it held, within the room where the holder is new. It takes no memory.
@@ -128,10 +116,8 @@ impl HoldingMap {
     {
         if births.as_slice().is_empty() {
             self.remove(&holder);
-        } else if self.get(&holder).is_some() {
-            self.write(&holder, births);
         } else {
-            self.insert(holder, births);
+            self.insert(&holder, births);
         }
     }
 }

@@ -32,8 +32,9 @@ impl Model for Ledger {
     ghost use Rattle.sf_types.specs.Rooms.{Roomy};
     ghost use Rattle.sf_types.specs.contracts.run.Run as run;
     ghost use Rattle.sf_types.specs.contracts.holder.Holder as holder;
+    ghost use Rattle.sf_room_map.specs.Inside.Sorted.{roomy_code};
     ghost use Rattle.sf_lifetimes.specs.Ledgers.{LedgerView};
-    ghost use Rattle.sf_lifetimes.specs.Inside.Codes.{roomy_code, ledger_code};
+    ghost use Rattle.sf_lifetimes.specs.Inside.Codes.{ledger_code};
     ghost use Rattle.sf_lifetimes.specs.Inside.Counted.{places_in, IsLedger};
 
     ghost Value = { Roomy LedgerView };

@@ -1,9 +1,10 @@
 //! The contents that holders hold, by counts.
 #![tactic(auto)]
 
+mod counted;
+mod holder_key;
 mod holding_map;
 mod ledger;
-mod map_room;
 mod place_map;
 mod rising;
 mod tally;

@@ -1,76 +1,79 @@
 //! The places of births with the number of their holders.
-ghost use Rattle.std.specs.Prelude.{◌≡◌, ℕ, ◌+◌, ◌<◌, ◌≤◌, ◌^◌, ◌==◌, ◌++◌, ◌∷◌, [], Bool, cond, map, length, None, Some, Option, OnOk, IfOk, IsSome};
+ghost use Rattle.std.specs.Prelude.{◌≡◌, ℕ, ◌+◌, ◌<◌, ◌≤◌, ◌^◌, ◌==◌, ◌++◌, ◌∷◌, [], Bool, cond, map, length, All, None, Some, Option, OnOk, IfOk, IsSome};
 ghost use Rattle.std.specs.Option.{option_copied};
 ghost use Rattle.std.specs.FinMap as fin;
 ghost use Rattle.std.specs.Ordering.{nat_cmp};
-ghost use Rattle.std.specs.BTreeMap as tree;
-ghost use Rattle.std.specs.HashMap.{spare};
 ghost use Rattle.sf_types.specs.Inside.Births.{IsRising};
 ghost use Rattle.sf_types.specs.Space.BlockRuns.{blocks_in};
 ghost use Rattle.sf_types.specs.Rooms.{MakesRoom, GrowsWithin, MovesWithin};
+ghost use Rattle.sf_room_map.specs.Entries.{value_for};
 ghost use Rattle.sf_shrink.specs.Plans.{ArePlaced};
 ghost use Rattle.sf_lifetimes.specs.Shifts.{AreSafeShifts};
 ghost use Rattle.sf_lifetimes.specs.Inside.Counted.{live_places_in, waiting_places_in};
-ghost use Rattle.sf_lifetimes.specs.Inside.Counts.{live_sum, holders_in, runs_in, live_runs, or_else, with_one_more, with_one_fewer, IsChangedAt, AreChangedBut, AreExchanged, AreFew, AreHeld, IsFree, without_holder, last_births, lone_births, runs_of_births, with_runs, with_shifts};
+ghost use Rattle.sf_lifetimes.specs.Inside.Counts.{live_sum, holders_in, runs_in, live_runs, live_place, with_one_more, with_one_fewer, IsChangedAt, AreChangedBut, AreExchanged, AreFew, AreHeld, IsFree, without_holder, last_births, lone_births, runs_of_births, with_runs, with_shifts};
 
-use crate::map_room::insert_within;
+use crate::counted::{Counted, NewRuns, OneFewer, OneMore, runs_if_held};
 use crate::rising::{place_from, stands_at};
+use sf_room_map::RoomMap;
 use sf_shrink::{Shift, ShiftList};
 use sf_types::{BirthRuns, BirthRunsList, ContentRuns, List, Mem, RoomList, TryCopy};
 use std::alloc::Global;
-use std::collections::{BTreeMap, HashMap};
 use std::marker::Model;
 
 /// Births that nobody holds any more with their places, and room for more.
 pub type UnheldPlaces = RoomList<BirthRuns>;
 
-/// A place and the number of its holders.
-#[derive(Drop)]
-pub struct Counted {
-    pub runs: ContentRuns,
-    pub holders: u64,
+// The number of blocks of a birth's place, none where it has no place.
+fn blocks_at(entries: &RoomMap<u128, Counted>, birth: u128) -> u64
+    requires { length (blocks_in (runs_in (value_for nat_cmp entries.now.held birth))) < 2 ^ 64 }
+    ensures { result ≡ length (blocks_in (runs_in (value_for nat_cmp entries.now.held birth))) }
+{
+    match entries.get(&birth) {
+        Some(counted) => counted.runs.block_count(),
+        None => 0,
+    }
 }
 
-// The number of blocks of a place that nobody holds, and else 0.
-fn blocks_if_unheld(counted: &Counted) -> u64
-    requires { length (blocks_in counted.now.runs) < 2 ^ 64 }
-    ensures { result ≡ cond (counted.now.holders == 0) (length (blocks_in counted.now.runs)) 0 }
+// The number of blocks of a birth's place where it had no holders, and else 0.
+fn blocks_if_unheld(entries: &RoomMap<u128, Counted>, birth: u128, holders: u64) -> u64
+    requires { length (blocks_in (runs_in (value_for nat_cmp entries.now.held birth))) < 2 ^ 64 }
+    ensures { result ≡ cond (holders == 0) (length (blocks_in (runs_in (value_for nat_cmp entries.now.held birth)))) 0 }
 {
-    if counted.holders == 0 {
-        counted.runs.block_count()
+    if holders == 0 {
+        blocks_at(entries, birth)
     } else {
         0
     }
 }
 
-// The runs of a place that some holder holds.
-fn runs_if_held(counted: &Counted) -> Option<&ContentRuns>
-    ensures { option_copied result ≡ live_runs (Some counted.now) }
+// Puts a birth with a copy of its runs at the end of a list, where some holder holds it.
+fn push_if_held(places: &mut BirthRunsList, birth: u128, counted: &Counted) -> Mem<()>
+    ensures { OnOk result (places.new ≡ places.old ++ live_place birth (live_runs (Some counted.now))) }
 {
-    if counted.holders == 0 {
-        None
-    } else {
-        Some(&counted.runs)
+    if let Some(runs) = runs_if_held(counted) {
+        places.push(BirthRuns {
+            birth,
+            runs: runs.copy()?,
+        })?;
     }
+    Ok(())
 }
 
-// Gives a birth other runs, where it has a place. It takes no memory.
-fn shift_one(entries: &mut HashMap<u128, Counted>, birth: u128, to: ContentRuns)
-    ensures changed { (q : ℕ) → fin.get (fin.from_entries {R = nat_cmp} entries.new.entries) q
-        ≡ cond (q == birth) (with_runs to (fin.get (fin.from_entries {R = nat_cmp} entries.old.entries) q)) (fin.get (fin.from_entries {R = nat_cmp} entries.old.entries) q) }
-    ensures spare { spare entries.new ≡ spare entries.old }
+// Gives a birth that has a place other runs. It takes no memory.
+fn shift_one(entries: &mut RoomMap<u128, Counted>, birth: u128, to: ContentRuns)
+    requires { IsSome (value_for nat_cmp entries.old.held birth) }
+    ensures changed { (q : ℕ) → value_for nat_cmp entries.new.held q
+        ≡ cond (q == birth) (with_runs to (value_for nat_cmp entries.old.held q)) (value_for nat_cmp entries.old.held q) }
+    ensures spare { entries.new.spare ≡ entries.old.spare }
 {
-    match entries.get_mut(&birth) {
-        Some(counted) => counted.runs = to,
-        None => {}
-    }
+    entries.exchange(&birth, &mut NewRuns { runs: to });
 }
 
-// Gives each birth of a list other runs. It takes no memory.
-fn shift_all(entries: &mut HashMap<u128, Counted>, shifts: Vec<Shift>)
-    ensures changed { (q : ℕ) → fin.get (fin.from_entries {R = nat_cmp} entries.new.entries) q
-        ≡ with_shifts shifts.items q (fin.get (fin.from_entries {R = nat_cmp} entries.old.entries) q) }
-    ensures spare { spare entries.new ≡ spare entries.old }
+// Gives each birth of a list other runs. Each has a place. It takes no memory.
+fn shift_all(entries: &mut RoomMap<u128, Counted>, shifts: Vec<Shift>)
+    requires { All (λ shift. IsSome (value_for nat_cmp entries.old.held shift.birth)) shifts.items }
+    ensures changed { (q : ℕ) → value_for nat_cmp entries.new.held q ≡ with_shifts shifts.items q (value_for nat_cmp entries.old.held q) }
+    ensures spare { entries.new.spare ≡ entries.old.spare }
 {
     let mut rest = shifts;
     while let Some(shift) = rest.pop() {
@@ -81,7 +84,7 @@ fn shift_all(entries: &mut HashMap<u128, Counted>, shifts: Vec<Shift>)
 /// Places by births, seen as a finite map, with room for more.
 #[derive(Drop)]
 pub struct PlaceMap {
-    entries: HashMap<u128, Counted>,
+    entries: RoomMap<u128, Counted>,
     live: u64,
 }
 
@@ -89,19 +92,18 @@ impl Model for PlaceMap {
     ghost use Rattle.std.specs.Coded.{coded_ℕ};
     ghost use Rattle.std.specs.FinMap as fin;
     ghost use Rattle.std.specs.Ordering.{nat_cmp};
-    ghost use Rattle.std.specs.HashMap.{spare};
     ghost use Rattle.sf_types.specs.Rooms.{Roomy};
+    ghost use Rattle.sf_room_map.specs.Inside.Sorted.{roomy_code};
     ghost use Rattle.sf_lifetimes.specs.Inside.Counts.{CountedMap, IsCounted};
-    ghost use Rattle.sf_lifetimes.specs.contracts.place_map.Counted as counted;
-    ghost use Rattle.sf_lifetimes.specs.Inside.Codes.{roomy_code};
+    ghost use Rattle.sf_lifetimes.specs.contracts.counted.Counted as counted;
 
     ghost Value = { Roomy CountedMap };
 
     ghost coded = { roomy_code (fin.code coded_ℕ counted.the_row.coded) };
 
-    ghost view = { λ m. record { held = fin.from_entries m.entries.entries; spare = spare m.entries } };
+    ghost view = { λ m. record { held = fin.from_entries m.entries.held; spare = m.entries.spare } };
 
-    ghost invariant = { λ m. IsCounted (fin.from_entries m.entries.entries) m.live };
+    ghost invariant = { λ m. IsCounted (fin.from_entries m.entries.held) m.live };
 }
 
 impl PlaceMap {
@@ -110,7 +112,7 @@ impl PlaceMap {
         ensures { result.held ≡ fin.empty }
     {
         PlaceMap {
-            entries: HashMap::new(alloc),
+            entries: RoomMap::new(alloc),
             live: 0,
         }
     }
@@ -119,8 +121,7 @@ impl PlaceMap {
     pub fn make_room(&mut self, count: u64) -> Mem<()>
         ensures { MakesRoom self.old self.new count result }
     {
-        self.entries.reserve(count as usize)?;
-        Ok(())
+        self.entries.make_room(count)
     }
 
     // The place of a birth.
@@ -154,10 +155,7 @@ impl PlaceMap {
     pub fn blocks_of(&self, birth: u128) -> u64
         ensures { result ≡ length (blocks_in (runs_in (fin.get self.now.held birth))) }
     {
-        match self.entries.get(&birth) {
-            Some(counted) => counted.runs.block_count(),
-            None => 0,
-        }
+        blocks_at(&self.entries, birth)
     }
 
     // The number of blocks of places that some holder holds.
@@ -175,8 +173,7 @@ impl PlaceMap {
         ensures ok { OnOk result (self.new.held ≡ fin.insert self.old.held birth (without_holder runs)) }
         ensures room { GrowsWithin self.old self.new 1 1 result }
     {
-        self.make_room(1)?;
-        insert_within(&mut self.entries, birth, Counted { runs, holders: 0 });
+        self.entries.insert(birth, Counted { runs, holders: 0 })?;
         Ok(())
     }
 
@@ -187,11 +184,9 @@ impl PlaceMap {
         ensures changed { IsChangedAt with_one_more self.old.held birth self.new.held }
         ensures spare { self.new.spare ≡ self.old.spare }
     {
-        let Some(counted) = self.entries.get_mut(&birth) else {
-            unreachable!();
-        };
-        self.live += blocks_if_unheld(counted);
-        counted.holders += 1;
+        let mut more = OneMore { before: 0 };
+        self.entries.exchange(&birth, &mut more);
+        self.live += blocks_if_unheld(&self.entries, birth, more.before);
     }
 
     // One holder fewer at a birth that has more than one. It takes no memory.
@@ -200,10 +195,7 @@ impl PlaceMap {
         ensures changed { IsChangedAt with_one_fewer self.old.held birth self.new.held }
         ensures spare { self.new.spare ≡ self.old.spare }
     {
-        let Some(counted) = self.entries.get_mut(&birth) else {
-            unreachable!();
-        };
-        counted.holders -= 1;
+        self.entries.exchange(&birth, &mut OneFewer);
     }
 
     // Takes out the place of a birth that has one holder. It takes no memory.
@@ -213,6 +205,8 @@ impl PlaceMap {
         ensures changed { IsChangedAt with_one_fewer self.old.held birth self.new.held }
         ensures spare { self.old.spare ≤ self.new.spare }
     {
+        // Each birth stands once among the entries, so that it is gone with the one.
+        let _ = self.entries.len();
         let Some(counted) = self.entries.remove(&birth) else {
             unreachable!();
         };
@@ -319,38 +313,17 @@ impl PlaceMap {
         Ok(())
     }
 
-    // Puts a copy of a birth's runs into a tree, where some holder holds the birth.
-    fn copy_live(&self, birth: u128, found: &mut BTreeMap<u128, ContentRuns>) -> Mem<()>
-        ensures { OnOk result ((q : ℕ) → tree.get nat_cmp found.new q
-            ≡ cond (q == birth) (or_else (live_runs (fin.get self.now.held birth)) (tree.get nat_cmp found.old q)) (tree.get nat_cmp found.old q)) }
-    {
-        let Some(runs) = self.runs_of(birth) else {
-            return Ok(());
-        };
-        found.insert(birth, runs.copy()?)?;
-        Ok(())
-    }
-
-    // Copies of the runs of the births that some holder holds, in order.
-    fn live_tree(&self, alloc: Global) -> Mem<BTreeMap<u128, ContentRuns>>
-        ensures { IfOk result (λ found. (q : ℕ) → tree.get nat_cmp found q ≡ live_runs (fin.get self.now.held q)) }
-    {
-        let mut found = BTreeMap::new(alloc);
-        for birth in self.entries.keys() {
-            self.copy_live(*birth, &mut found)?;
-        }
-        Ok(found)
-    }
-
     // The births that some holder holds with their places, in rising order.
     pub fn places(&self, alloc: Global) -> Mem<BirthRunsList>
         ensures places { IfOk result (λ places. places ≡ map (λ e. record { birth = e.0; runs = e.1 }) (fin.entries (live_places_in self.now.held))) }
         ensures placed { IfOk result (λ places. ArePlaced places (2 ^ 32)) }
     {
-        let _ = &self.live;
+        // The keys of the entries rise.
+        let _ = self.entries.len();
         let mut places = List::new(alloc);
-        for (birth, runs) in self.live_tree(alloc)? {
-            places.push(BirthRuns { birth, runs })?;
+        let entries = self.entries.entries()?;
+        for entry in entries.as_slice() {
+            push_if_held(&mut places, *entry.0, entry.1)?;
         }
         Ok(places)
     }

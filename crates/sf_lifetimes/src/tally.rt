@@ -10,9 +10,9 @@ ghost use Rattle.sf_lifetimes.specs.Inside.Bounds.{IsBounded};
 
 use crate::holding_map::HoldingMap;
 use crate::place_map::PlaceMap;
+use sf_room_map::RoomMap;
 use sf_types::{Holder, Mem};
 use std::alloc::Global;
-use std::collections::HashMap;
 use std::marker::Model;
 
 // How many holders of a birth are left, and the number of its blocks.
@@ -25,7 +25,7 @@ pub struct Tally {
 // The births of which holders were counted off, seen as a finite map.
 #[derive(Drop)]
 pub struct TallyMap {
-    entries: HashMap<u128, Tally>,
+    entries: RoomMap<u128, Tally>,
     freed: u64,
 }
 
@@ -40,9 +40,9 @@ impl Model for TallyMap {
 
     ghost coded = { fin.code coded_ℕ tally.the_row.coded };
 
-    ghost view = { λ m. fin.from_entries m.entries.entries };
+    ghost view = { λ m. fin.from_entries m.entries.held };
 
-    ghost invariant = { λ m. m.freed ≡ freed_sum (fin.from_entries m.entries.entries) };
+    ghost invariant = { λ m. m.freed ≡ freed_sum (fin.from_entries m.entries.held) };
 }
 
 // The number of blocks, or none where a holder is left.
@@ -58,7 +58,7 @@ impl TallyMap {
         ensures { result ≡ fin.empty }
     {
         TallyMap {
-            entries: HashMap::new(alloc),
+            entries: RoomMap::new(alloc),
             freed: 0,
         }
     }

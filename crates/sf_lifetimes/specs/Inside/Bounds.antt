@@ -2,7 +2,7 @@
 use Rattle.std.specs.Prelude.{ℕ, ◌≤◌, Option, Some, None}
 use Rattle.std.specs.FinMap as fin
 use Rattle.sf_lifetimes.specs.declared.tally.Tally.{Tally}
-use Rattle.sf_lifetimes.specs.declared.place_map.Counted.{Counted}
+use Rattle.sf_lifetimes.specs.declared.counted.Counted.{Counted}
 use Rattle.sf_lifetimes.specs.Inside.Counts.{CountedMap, live_in}
 use Rattle.sf_lifetimes.specs.Inside.Tallies.{Tallies, freed_in}
 

@@ -1,12 +1,7 @@
--- How what the crate's types are seen as is stored (our own).
-use Rattle.std.specs.Prelude.{ℕ, refl}
-use Rattle.std.specs.Coded.{Coded, code_by, coded×, coded_ℕ}
-use Rattle.sf_types.specs.Rooms.{Roomy}
+-- How what a ledger is seen as is stored (our own).
+use Rattle.std.specs.Prelude.{refl}
+use Rattle.std.specs.Coded.{Coded, code_by, coded×}
 use Rattle.sf_lifetimes.specs.Ledgers.{Places, Holdings, LedgerView}
-
--- An object with room is stored as what it holds and its spare.
-abbrev pub roomy_code : {X : Type 0} → Coded X → Coded (Roomy X)
-roomy_code {X} code = code_by (X × ℕ) (coded× code coded_ℕ) (λ r. (r.held, r.spare)) (λ p. record { held = p.0; spare = p.1 }) (λ _. refl)
 
 -- A ledger's maps are stored as their pair.
 abbrev pub ledger_code : Coded Places → Coded Holdings → Coded LedgerView

@@ -7,7 +7,7 @@ use Rattle.sf_types.specs.declared.birth_runs.BirthRuns.{BirthRuns}
 use Rattle.sf_types.specs.declared.run.Run.{Run}
 use Rattle.sf_types.specs.Space.BlockRuns.{blocks_in}
 use Rattle.sf_shrink.specs.declared.shifts.Shift.{Shift}
-use Rattle.sf_lifetimes.specs.declared.place_map.Counted.{Counted}
+use Rattle.sf_lifetimes.specs.declared.counted.Counted.{Counted}
 use Rattle.sf_lifetimes.specs.Ledgers.{has_birth}
 
 -- What a ledger keeps of each birth.
@@ -29,10 +29,10 @@ abbrev pub live_runs : Option Counted → Option (List Run)
 live_runs None = None
 live_runs (Some c) = cond (c.holders == 0) None (Some c.runs)
 
--- The first of two that is there.
-abbrev pub or_else : Option (List Run) → Option (List Run) → Option (List Run)
-or_else None other = other
-or_else (Some runs) other = Some runs
+-- The list of a birth with its runs, where it has any.
+abbrev pub live_place : ℕ → Option (List Run) → List BirthRuns
+live_place birth None = []
+live_place birth (Some runs) = record { birth = birth; runs = runs } ∷ []
 
 -- A place with one holder more.
 abbrev pub with_one_more : Option Counted → Option Counted

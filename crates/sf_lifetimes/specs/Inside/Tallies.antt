@@ -5,7 +5,7 @@ use Rattle.std.specs.Ordering.{nat_cmp}
 use Rattle.std.specs.FinMap as fin
 use Rattle.sf_types.specs.Space.BlockRuns.{blocks_in}
 use Rattle.sf_types.specs.declared.holder.Holder.{Holder}
-use Rattle.sf_lifetimes.specs.declared.place_map.Counted.{Counted}
+use Rattle.sf_lifetimes.specs.declared.counted.Counted.{Counted}
 use Rattle.sf_lifetimes.specs.declared.tally.Tally.{Tally}
 use Rattle.sf_lifetimes.specs.Inside.Counts.{holders_in, runs_in}
 use Rattle.sf_lifetimes.specs.Ledgers.{Holdings, has_birth, held_by}

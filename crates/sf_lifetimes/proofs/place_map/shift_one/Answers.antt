@@ -1,26 +1,16 @@
-use Rattle.std.proofs.Common.{◌∙◌, ap, sym, subst, refl}
-use Rattle.std.specs.Prelude.{IsSome}
-use Rattle.std.specs.Option.{option_copied_mut}
+use Rattle.std.proofs.Common.{◌≡◌, ◌∙◌, ap, List, ℕ}
 use Rattle.std.specs.Ordering.{nat_cmp}
-use Rattle.std.specs.FinMap as fin
-use Rattle.sf_lifetimes.specs.declared.place_map.Counted.{Counted}
-use Rattle.sf_lifetimes.specs.Inside.Counts.{CountedMap}
-use Rattle.sf_lifetimes.proofs.BirthMapLemmas.{get_is, put_at}
-use Rattle.sf_lifetimes.proofs.ShiftLemmas.{moved_some, moved_none}
+use Rattle.sf_room_map.specs.Entries.{value_for, with_value}
+use Rattle.sf_lifetimes.specs.declared.counted.Counted.{Counted}
+use Rattle.sf_lifetimes.proofs.EntryMapLemmas.{value_of, of_some}
+use Rattle.sf_lifetimes.proofs.ShiftLemmas.{moved}
 use Rattle.sf_lifetimes.proofs.place_map.shift_one.Goals as goal
 
-pub returns-in-Some-clause-changed : goal.returns-in-Some-clause-changed
-returns-in-Some-clause-changed c q =
-    let old = c.in-Some.counted.now in
-    let m : CountedMap = fin.from_entries c.args.entries.now.entries in
-    let found = sym c.get_mut.ensures.value ∙ ap option_copied_mut c.in-Some.is in
-    let is = get_is c.args.entries.now c.args.birth ∙ found in
-    let w : Counted = record { runs = c.args.to; holders = old.holders } in
-    ap (λ n. fin.get n q) (put_at c.args.entries.now (c.get_mut.follows.lender w) c.args.birth w ((c.get_mut.follows.holds w).3 (subst IsSome (sym found) refl)).0)
-    ∙ moved_some m c.args.birth q c.args.to old is
-
-pub returns-in-None-clause-changed : goal.returns-in-None-clause-changed
-returns-in-None-clause-changed c q =
-    let m : CountedMap = fin.from_entries c.args.entries.now.entries in
-    let is = get_is c.args.entries.now c.args.birth ∙ sym c.get_mut.ensures.value ∙ ap option_copied_mut c.in-None.is in
-    ap (λ n. fin.get (fin.from_entries {R = nat_cmp} n.entries) q) c.get_mut.follows.holds-at-none ∙ moved_none m c.args.birth q c.args.to is
+pub returns-clause-changed : goal.returns-clause-changed
+returns-clause-changed c q =
+    let es = c.args.entries.now.held in
+    let b = c.args.birth in
+    let found = value_of (value_for nat_cmp es b) c.requires in
+    ap (λ (xs : List (ℕ × Counted)). value_for nat_cmp xs q)
+    (of_some (λ (w : Counted). c.exchange.new.self.held ≡ with_value nat_cmp es b (record { runs = c.args.to; holders = w.holders })) (value_for nat_cmp es b) found.0 found.1 c.exchange.ensures.held)
+    ∙ moved es b q c.args.to found.0 found.1

@@ -1,20 +1,24 @@
-use Rattle.std.proofs.Common.{◌∙◌, ap, sym, subst}
+use Rattle.std.proofs.Common.{◌∙◌, ap, sym, subst, List, ℕ}
+use Rattle.std.specs.Ordering.{nat_cmp}
+use Rattle.std.specs.Cmp.{nat_cmp_total}
 use Rattle.std.specs.FinMap as fin
-use Rattle.sf_lifetimes.specs.Inside.Counts.{CountedMap, IsCounted, IsFree, without_holder}
-use Rattle.sf_lifetimes.proofs.BirthMapLemmas.{put_at}
+use Rattle.std.specs.FinMap.{nat_cmp-IsAntisymmetric}
+use Rattle.sf_lifetimes.specs.declared.counted.Counted.{Counted}
+use Rattle.sf_lifetimes.specs.Inside.Counts.{IsCounted, IsFree, without_holder}
+use Rattle.sf_lifetimes.proofs.EntryMapLemmas.{put_at}
 use Rattle.sf_lifetimes.proofs.CountLemmas.{placed_counted}
 use Rattle.sf_lifetimes.proofs.place_map.PlaceMap.insert.Goals as goal
 
-pub invariant_of-self : goal.invariant_of-self
-invariant_of-self c =
-    let m : CountedMap = fin.from_entries c.self.inside.entries.entries in
-    let same = c.make_room.ensures.held in
-    let none = ap (λ v. fin.get v.held c.args.birth) c.self.view_is ∙ ap (λ n. fin.get n c.args.birth) same ∙ c.requires.new in
-    let free = subst (λ n. IsFree n c.args.runs) (sym same ∙ sym (ap (λ v. v.held) c.self.view_is)) c.requires.free in
-    subst (λ n. IsCounted n c.self.inside.live) (sym (put_at c.self.inside.entries c.insert_within.new.entries c.args.birth (without_holder c.args.runs) c.insert_within.ensures.updates.0))
-    (placed_counted m c.self.inside.live c.args.birth c.args.runs none free c.self.invariant)
+pub invariant_of-self-2 : goal.invariant_of-self-2
+invariant_of-self-2 c =
+    let es = c.self.inside.entries.held in
+    let none = ap (λ v. fin.get v.held c.args.birth) c.self.view_is ∙ c.requires.new in
+    let free = subst (λ v. IsFree v.held c.args.runs) (sym c.self.view_is) c.requires.free in
+    let put = ap (λ (xs : List (ℕ × Counted)). fin.from_entries {R = nat_cmp} xs) c.in_ok-insert.ensures.held ∙ put_at nat_cmp nat_cmp_total nat_cmp-IsAntisymmetric es c.args.birth (without_holder c.args.runs) in
+    subst (λ n. IsCounted n c.self.inside.live) (sym put) (placed_counted (fin.from_entries es) c.self.inside.live c.args.birth c.args.runs none free c.self.invariant)
 
 pub returns-clause-ok : goal.returns-clause-ok
 returns-clause-ok c =
-    put_at c.self.inside.entries c.insert_within.new.entries c.args.birth (without_holder c.args.runs) c.insert_within.ensures.updates.0
-    ∙ ap (λ n. fin.insert n c.args.birth (without_holder c.args.runs)) (ap (λ v. v.held) c.self.view_is ∙ c.make_room.ensures.held)
+    ap (λ (xs : List (ℕ × Counted)). fin.from_entries {R = nat_cmp} xs) c.in_ok-insert.ensures.held
+    ∙ put_at nat_cmp nat_cmp_total nat_cmp-IsAntisymmetric c.self.inside.entries.held c.args.birth (without_holder c.args.runs)
+    ∙ ap (λ v. fin.insert v.held c.args.birth (without_holder c.args.runs)) c.self.view_is

@@ -1,16 +1,18 @@
-use Rattle.std.proofs.Common.{◌∙◌, ap, sym, rules, arith}
-use Rattle.std.proofs.Common.{subst}
+use Rattle.std.proofs.Common.{◌∙◌, ap, sym, subst, rules, arith}
+use Rattle.std.specs.Ordering.{nat_cmp}
+use Rattle.std.specs.FinMap as fin
+use Rattle.std.specs.Prelude.{ℕ, List}
+use Rattle.sf_lifetimes.specs.declared.counted.Counted.{Counted}
 use Rattle.sf_lifetimes.specs.Inside.Counts.{IsCounted}
-use Rattle.sf_lifetimes.proofs.BirthMapLemmas.{reordered}
 use Rattle.sf_lifetimes.proofs.place_map.PlaceMap.make_room.Goals as goal
 
-pub invariant_of-self-2 : goal.invariant_of-self-2
-invariant_of-self-2 c = subst (λ m. IsCounted m c.self.inside.live) (sym (reordered c.self.inside.entries c.reserve.new.self c.reserve.ensures.entries.2)) c.self.invariant
+pub invariant_of-self : goal.invariant_of-self
+invariant_of-self c = subst (λ (es : List (ℕ × Counted)). IsCounted (fin.from_entries es) c.self.inside.live) (sym c.make_room.ensures.held) c.self.invariant
 
 pub returns : goal.returns
 returns c = record {
   done = search rules;
-  held = reordered c.self.inside.entries c.reserve.new.self c.reserve.ensures.entries.2 ∙ ap (λ v. v.held) c.self.view_is;
+  held = ap (λ (es : List (ℕ × Counted)). fin.from_entries {R = nat_cmp} es) c.make_room.ensures.held ∙ ap (λ v. v.held) c.self.view_is;
   room = search rules;
-  kept = omega (arith, c.reserve.ensures.spare, ap (λ v. v.spare) c.self.view_is);
+  kept = omega (arith, c.make_room.ensures.kept, ap (λ v. v.spare) c.self.view_is);
 }

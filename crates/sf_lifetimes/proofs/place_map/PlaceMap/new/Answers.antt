@@ -6,4 +6,4 @@ use Rattle.sf_lifetimes.proofs.CountLemmas.{none_counted}
 use Rattle.sf_lifetimes.proofs.place_map.PlaceMap.new.Goals as goal
 
 pub invariant_of-result : goal.invariant_of-result
-invariant_of-result c = subst (λ es. IsCounted (fin.from_entries es) 0) (sym c.new.ensures.empty) none_counted
+invariant_of-result c = subst (λ es. IsCounted (fin.from_entries es) 0) (sym c.new.ensures) none_counted

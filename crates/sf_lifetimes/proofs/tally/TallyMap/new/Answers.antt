@@ -7,4 +7,4 @@ use Rattle.sf_lifetimes.proofs.MapSumLemmas.{no_values}
 use Rattle.sf_lifetimes.proofs.tally.TallyMap.new.Goals as goal
 
 pub invariant_of-result : goal.invariant_of-result
-invariant_of-result c = sym (ap (λ es. freed_sum (fin.from_entries es)) c.new.ensures.empty ∙ ap (sum_by freed_in) (no_values nat_cmp))
+invariant_of-result c = sym (ap (λ es. freed_sum (fin.from_entries es)) c.new.ensures ∙ ap (sum_by freed_in) (no_values nat_cmp))
