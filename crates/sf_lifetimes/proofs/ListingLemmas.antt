@@ -17,12 +17,13 @@ use Rattle.sf_types.specs.Inside.Births.{IsBelowAll, IsRising}
 use Rattle.sf_types.specs.Space.BlockRuns.{blocks_in}
 use Rattle.sf_types.proofs.BoolLemmas.{first, second, both}
 use Rattle.sf_types.proofs.NumberLemmas.{own_number}
+use Rattle.sf_room_map.proofs.EntryLemmas.{below_tied}
 use Rattle.sf_shrink.specs.Plans.{blocks_of_places, ArePlaced}
 use Rattle.sf_lifetimes.specs.declared.counted.Counted.{Counted}
 use Rattle.sf_lifetimes.specs.Ledgers.{occupied_blocks}
 use Rattle.sf_lifetimes.specs.Inside.Counts.{CountedMap, IsCounted, live_runs, live_place, times}
 use Rattle.sf_lifetimes.specs.Inside.Counted.{live_places_in, waiting_places_in}
-use Rattle.sf_lifetimes.proofs.MapSumLemmas.{weight, same_sum, find-below, below-tied}
+use Rattle.sf_lifetimes.proofs.MapSumLemmas.{weight, same_sum, find-below}
 use Rattle.sf_lifetimes.proofs.CountLemmas.{distinct, below, once_below}
 use Rattle.sf_lifetimes.proofs.LedgerLemmas.{waiting_runs, get_live, get_waiting}
 use Rattle.sf_types.proofs.NameMapLemmas.{equal, ordering_less}
@@ -140,7 +141,7 @@ find_pairs (e ∷ es) q sorted =
     elim (e.1.holders == 0) as (λ t. (e.1.holders == 0) ≡ t → find nat_cmp q (cond t (live_pairs es) ((e.0, e.1.runs) ∷ live_pairs es)) ≡ live_runs (cond (is_eq (nat_cmp q e.0)) (Some e.1) (find nat_cmp q es))) [
       | true ↦ λ none. elim (is_eq (nat_cmp q e.0)) as (λ b. is_eq (nat_cmp q e.0) ≡ b → find nat_cmp q (live_pairs es) ≡ live_runs (cond b (Some e.1) (find nat_cmp q es))) [
         | true ↦ λ tie.
-            rest ∙ ap live_runs (find-below nat_cmp nat_cmp_total q es (below-tied nat_cmp nat_cmp_total q e.0 es (equal _ tie) (first _ _ sorted)))
+            rest ∙ ap live_runs (find-below nat_cmp nat_cmp_total q es (below_tied nat_cmp nat_cmp_total q e.0 es (equal _ tie) (first _ _ sorted)))
             ∙ sym (ap (λ b. cond b None (Some e.1.runs)) none)
         | false ↦ λ _. rest
       ] refl

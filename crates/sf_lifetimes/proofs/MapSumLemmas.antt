@@ -13,6 +13,7 @@ use Rattle.std.proofs.lemmas.Cmp.{tied_itself}
 use Rattle.std.specs.FinMap.Entries.{find, put, is_sorted, below_all, by_order}
 use Rattle.sf_types.proofs.BoolLemmas.{first, second, both}
 use Rattle.sf_types.proofs.NameMapLemmas.{equal, ordering_less}
+use Rattle.sf_room_map.proofs.EntryLemmas.{no_length, below_tied}
 
 -- the weight of what a map has at a key
 abbrev pub weight : {X : Type 0} → (X → ℕ) → Option X → ℕ
@@ -23,10 +24,6 @@ module _ {K X : Type 0} (R : K → K → Ordering) (o : IsTotalOrder R) where
   below-less : (x y : K) (es : List (K × X)) → R x y ≡ Less → T (below_all R y es) → T (below_all R x es)
   below-less x y [] p h = tt
   below-less x y (e ∷ es) p h = both _ _ (subst (λ r. T (is_lt r)) (sym (o.trans x y e.0 p (ordering_less _ (first _ _ h)))) tt) (below-less x y es p (second _ _ h))
-
-  pub below-tied : (x y : K) (es : List (K × X)) → R x y ≡ Equal → T (below_all R y es) → T (below_all R x es)
-  below-tied x y [] p h = tt
-  below-tied x y (e ∷ es) p h = both _ _ (subst (λ r. T (is_lt r)) (sym (o.congr x y e.0 p)) (first _ _ h)) (below-tied x y es p (second _ _ h))
 
   pub find-below : (q : K) (es : List (K × X)) → T (below_all R q es) → find R q es ≡ None
   find-below q [] h = refl
@@ -95,7 +92,7 @@ sum-le {K} {X} R o same f g (e ∷ es) n sorted le =
     let rest = sum-le R o same f g es (fin.remove n e.0) (second _ _ sorted) (λ q.
     subst (λ y. weight f (find R q es) ≤ weight g y) (sym (get-remove o n e.0 q))
     (elim (eq_by_cmp R q e.0) as (λ t. eq_by_cmp R q e.0 ≡ t → weight f (cond t (Some e.1) (find R q es)) ≤ weight g (get n q) → weight f (find R q es) ≤ weight g (cond t None (get n q))) [
-      | true ↦ λ t _. omega (arith, ap (weight f) (find-below R o q es (below-tied R o q e.0 es (equal _ t) (first _ _ sorted))))
+      | true ↦ λ t _. omega (arith, ap (weight f) (find-below R o q es (below_tied R o q e.0 es (equal _ t) (first _ _ sorted))))
       | false ↦ λ t fits. fits
     ] refl (le q))) in
     omega (arith, own, rest, sum_by-cons f e.1 (map (λ (e : K × X). e.1) es), sum-remove R o same g n e.0)
@@ -107,10 +104,6 @@ same_sum R o same f g m n is =
     let below = sum-le R o same f g (entries m) n (entries_sorted m) (λ q. omega (arith, is q, ap (weight f) (get-entries m q))) in
     let above = sum-le R o same g f (entries n) m (entries_sorted n) (λ q. omega (arith, is q, ap (weight g) (get-entries n q))) in
     omega (arith, below, above)
-
-no_length : {A : Type 0} (xs : List A) → length xs ≡ 0 → xs ≡ []
-no_length [] is = refl
-no_length (x ∷ xs) is = absurd (omega (arith, is))
 
 -- the empty map has no entries and no values
 pub no_entries : {K X : Type 0} (R : K → K → Ordering) → entries (fin.empty {X = X} {R = R}) ≡ []

@@ -1,6 +1,5 @@
 //! A holder that stands in a map by itself.
 ghost use Rattle.std.specs.Prelude.{◌≡◌, nat_eq, refl, Some};
-ghost use Rattle.std.specs.Ordering.{nat_cmp, on};
 ghost use Rattle.std.specs.Cmp.{partial_equiv_from_equiv, on_per, on_equiv, on_po};
 ghost use Rattle.std.specs.Cmp.Lexicographic.{pointwise, nat_list_eq_equiv, texts_po, texts_ties};
 ghost use Rattle.sf_types.specs.Inside.Holders.{key_of, holder_cmp, holder_cmp_total, holder_cmp-IsAntisymmetric, input_of, same_input};

@@ -1,5 +1,5 @@
 -- Entries whose keys rise: what they have at a key, and what a change leaves.
-use Rattle.std.proofs.Common.{◌≡◌, ℕ, ◌+◌, Bool, true, false, cond, not, List, [], ◌∷◌, length, map, Option, Some, None, ◌⊎◌, inl, inr, refl, sym, ap, subst, ◌∙◌, arith}
+use Rattle.std.proofs.Common.{◌≡◌, ℕ, ◌+◌, ◌<◌, ◌≤◌, Bool, true, false, cond, not, List, [], ◌∷◌, length, map, Option, Some, None, ◌⊎◌, inl, inr, refl, sym, ap, subst, ◌∙◌, arith}
 use Rattle.std.specs.Prelude.{T, is_some, find, filter}
 use Rattle.std.specs.declared.cmp.Ordering.{Ordering}
 use Rattle.std.specs.declared.cmp.Ordering.TheVariants.{Less, Equal, Greater}
@@ -19,6 +19,10 @@ turned : {A : Type 0} (b : Bool) (x y : A) → cond (not b) x y ≡ cond b y x
 turned true x y = refl
 turned false x y = refl
 
+pub no_length : {A : Type 0} (xs : List A) → length xs ≡ 0 → xs ≡ []
+no_length [] none = refl
+no_length (x ∷ xs) none = absurd (omega (arith, none))
+
 length_with : (b : Bool) (n k : ℕ) → b ≡ false → n ≡ k → cond b n (n + 1) ≡ k + 1
 length_with true n k is same = absurd cc
 length_with false n k is same = omega (arith, same)
@@ -32,6 +36,25 @@ module _ {K X : Type 0} (R : K → K → Ordering) where
   pub find_is : (es : List (K × X)) (q : K) → value_for R es q ≡ fin.find R q es
   find_is [] q = refl
   find_is (e ∷ es) q = ap (cond (is_eq (R q e.0)) (Some e.1)) (find_is es q)
+
+  -- a map is no shorter once a value was put, and longer where the key was new
+  pub length_kept : (es : List (K × X)) (k : K) (v : X) → length es ≤ length (with_value R es k v)
+  length_kept [] k v = omega arith
+  length_kept (e ∷ es) k v =
+      elim (R k e.0) as (λ r. length (e ∷ es) ≤ length (match_ordering r ((k, v) ∷ e ∷ es) ((e.0, v) ∷ es) (e ∷ with_value R es k v))) [
+        | Less ↦ omega arith
+        | Equal ↦ omega arith
+        | Greater ↦ omega (arith, length_kept es k v)
+      ]
+
+  pub length_new : (es : List (K × X)) (k : K) (v : X) → value_for R es k ≡ None → length es < length (with_value R es k v)
+  length_new [] k v none = omega arith
+  length_new (e ∷ es) k v none =
+      elim (R k e.0) as (λ r. cond (is_eq r) (Some e.1) (value_for R es k) ≡ None → length (e ∷ es) < length (match_ordering r ((k, v) ∷ e ∷ es) ((e.0, v) ∷ es) (e ∷ with_value R es k v))) [
+        | Less ↦ λ _. omega arith
+        | Equal ↦ λ bad. absurd cc
+        | Greater ↦ λ left. omega (arith, length_new es k v left)
+      ] none
 
   below_to_all : (x : K) (es : List (K × X)) → T (fin.below_all R x es) → AllByRecursion (λ y. R x y ≡ Less) (keys_of es)
   below_to_all x [] below = tt
@@ -51,7 +74,7 @@ module _ {K X : Type 0} (R : K → K → Ordering) where
       ∙ ap (λ (rest : List (K × X)). e ∷ rest) (all_kept k es (second _ _ below))
 
   module _ (o : IsTotalOrder R) where
-    below_tied : (x y : K) (es : List (K × X)) → R x y ≡ Equal → T (fin.below_all R y es) → T (fin.below_all R x es)
+    pub below_tied : (x y : K) (es : List (K × X)) → R x y ≡ Equal → T (fin.below_all R y es) → T (fin.below_all R x es)
     below_tied x y [] tie below = tt
     below_tied x y (e ∷ es) tie below = both _ _ (subst (λ r. T (is_lt r)) (sym (o.congr x y e.0 tie)) (first _ _ below)) (below_tied x y es tie (second _ _ below))
 

@@ -19,7 +19,7 @@ use Rattle.std.proofs.lemmas.Option.{slice_get-get_or, slice_get_within}
 use Rattle.sf_types.proofs.NameMapLemmas.{equal, sorted_from_ordered}
 use Rattle.sf_room_map.specs.Entries.{value_for, with_value, without_key}
 use Rattle.sf_room_map.specs.Inside.Sorted.{sorted_entries}
-use Rattle.sf_room_map.proofs.EntryLemmas.{find_is, are_sorted, length_sorted, find_sorted, same_values, sorted_with, sorted_without, value_for-with, value_for-without}
+use Rattle.sf_room_map.proofs.EntryLemmas.{no_length, find_is, are_sorted, length_sorted, find_sorted, same_values, sorted_with, sorted_without, value_for-with, value_for-without}
 
 find_by : {K X : Type 0} (R : K → K → Ordering) (eq : K → K → Bool) → ((a b : K) → eq a b ≡ eq_by_cmp R a b) → (es : List (K × X)) (q : K) → fin.find R q es ≡ lookup (eq q) es
 find_by R eq ties [] q = refl
@@ -66,10 +66,6 @@ module _ {K X S : Type 0} (R : K → K → Ordering) (eq : K → K → Bool) (o 
       ∙ ap (λ b. cond b None (get eq m q)) (ties k q ∙ (eq_by_cmp_equiv o).symm k q)
       ∙ ap (cond (eq_by_cmp R q k) None) (sym (get_is m q))
       ∙ sym (value_for-without R o old k q (are_sorted R o m.entries)))
-
-no_length : {A : Type 0} (xs : List A) → length xs ≡ 0 → xs ≡ []
-no_length [] none = refl
-no_length (x ∷ xs) none = absurd (omega (arith, none))
 
 both_found : {X : Type 0} (x y : Option X) → ((v : X) → x ≡ Some v → y ≡ Some v) → ((v : X) → y ≡ Some v → x ≡ Some v) → x ≡ y
 both_found None None there back = refl

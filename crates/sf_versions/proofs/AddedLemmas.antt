@@ -19,7 +19,7 @@ use Rattle.sf_versions.specs.VersionTables.{versions_of, with_version, with_vers
 use Rattle.sf_versions.specs.Inside.VersionOrder.{key_cmp, key_cmp_total}
 use Rattle.sf_versions.specs.Inside.Spans.{Ranked, key_at, version_at, versions_from, versions_in, rows_in, span_for, IsSpan, AreSpans}
 use Rattle.sf_versions.proofs.RiseLemmas.{rise_added, rise_later, rise_below}
-use Rattle.sf_versions.proofs.SpanLemmas.{length_kept, length_new, version_here, version_other, other_row, other_rank, from_same, from_last, from_at, length_from, of_span, spans_put, rows_put}
+use Rattle.sf_versions.proofs.SpanLemmas.{version_here, version_other, other_row, other_rank, from_same, from_last, from_at, length_from, of_span, spans_put, rows_put}
 
 -- the span of a row and one version more
 abbrev pub longer : Span → Span
@@ -60,8 +60,8 @@ module _ (number : ℕ) (spans : NameMap Span) (vs : Ranked) (name : List ℕ) (
   numbered_of : (s : Span) → (span_for spans name).row < length (with_value name_cmp spans name s)
   numbered_of s =
       elim (get spans name) as (λ o. get spans name ≡ o → (unwrap_or o (new_span spans)).row < length (with_value name_cmp spans name s)) [
-        | None ↦ λ none. length_new name_cmp spans name s none
-        | Some t ↦ λ found. omega (arith, (are.each name t found).numbered, length_kept name_cmp spans name s)
+        | None ↦ λ none. entry.length_new name_cmp spans name s none
+        | Some t ↦ λ found. omega (arith, (are.each name t found).numbered, entry.length_kept name_cmp spans name s)
       ] refl
 
   apart_of : (other : List ℕ) (t : Span) → (other ≡ name → ⊥) → get spans other ≡ Some t → (span_for spans name).row ≡ t.row → ⊥

@@ -25,25 +25,6 @@ use Rattle.sf_versions.specs.Inside.Spans.{Ranked, key_at, version_at, versions_
 pub names_exact : IsAntisymmetric name_cmp
 names_exact = slice_cmp-IsAntisymmetric nat_cmp-IsAntisymmetric
 
--- maps with an entry more
-pub length_kept : {K X : Type 0} (R : K → K → Ordering) (es : List (K × X)) (k : K) (v : X) → length es ≤ length (with_value R es k v)
-length_kept R [] k v = omega arith
-length_kept {K} {X} R (e ∷ es) k v =
-    elim (R k e.0) as (λ r. length (e ∷ es) ≤ length (match_ordering r ((k, v) ∷ e ∷ es) ((e.0, v) ∷ es) (e ∷ with_value R es k v))) [
-      | Less ↦ omega arith
-      | Equal ↦ omega arith
-      | Greater ↦ omega (arith, length_kept R es k v)
-    ]
-
-pub length_new : {K X : Type 0} (R : K → K → Ordering) (es : List (K × X)) (k : K) (v : X) → value_for R es k ≡ None → length es < length (with_value R es k v)
-length_new R [] k v none = omega arith
-length_new {K} {X} R (e ∷ es) k v none =
-    elim (R k e.0) as (λ r. cond (is_eq r) (Some e.1) (value_for R es k) ≡ None → length (e ∷ es) < length (match_ordering r ((k, v) ∷ e ∷ es) ((e.0, v) ∷ es) (e ∷ with_value R es k v))) [
-      | Less ↦ λ _. omega arith
-      | Equal ↦ λ bad. absurd cc
-      | Greater ↦ λ left. omega (arith, length_new R es k v left)
-    ] none
-
 -- the version at a place after one was put
 pub version_here : (vs : Ranked) (row rank : ℕ) (v : ℕ × Option Value) → version_at (with_value key_cmp vs (key_at row rank) v) row rank ≡ v
 version_here vs row rank v = ap (λ (x : Option (ℕ × Option Value)). unwrap_or x (0, None)) (entry.with_here key_cmp key_cmp_total keys_exact vs (key_at row rank) v)
@@ -129,7 +110,7 @@ module _ (now : ℕ) (spans : NameMap Span) (vs ws : Ranked) (name : List ℕ) (
   each_put : IsSpan now (length (with_value name_cmp spans name s)) ws s → (q : List ℕ) (t : Span) → get (with_value name_cmp spans name s) q ≡ Some t → IsSpan now (length (with_value name_cmp spans name s)) ws t
   each_put is q t found =
       ⊎_elim (λ own. subst (IsSpan now (length (with_value name_cmp spans name s)) ws) own.1 is)
-      (λ old. span_kept now (length spans) (length (with_value name_cmp spans name s)) vs ws t (length_kept name_cmp spans name s) (kept_of q t old.0 old.1) (are.each q t old.1))
+      (λ old. span_kept now (length spans) (length (with_value name_cmp spans name s)) vs ws t (entry.length_kept name_cmp spans name s) (kept_of q t old.0 old.1) (are.each q t old.1))
       (cases q t found)
 
   apart_put : (a b : List ℕ) (t u : Span) → get (with_value name_cmp spans name s) a ≡ Some t → get (with_value name_cmp spans name s) b ≡ Some u → t.row ≡ u.row → a ≡ b

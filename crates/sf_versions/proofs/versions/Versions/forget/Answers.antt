@@ -8,7 +8,8 @@ use Rattle.sf_room_map.specs.Entries.{value_for, without_key}
 use Rattle.sf_versions.specs.RowChanges.{RowChanges, last_number}
 use Rattle.sf_versions.specs.VersionTables.{without_version, IsDisplaced}
 use Rattle.sf_versions.specs.Inside.Spans.{AreSpans, rows_in}
-use Rattle.sf_versions.proofs.SpanLemmas.{of_found, of_none, length_kept, spans_put, rows_put}
+use Rattle.sf_room_map.proofs.EntryLemmas.{length_kept}
+use Rattle.sf_versions.proofs.SpanLemmas.{of_found, of_none, spans_put, rows_put}
 use Rattle.sf_versions.proofs.ReadLemmas.{span_bound}
 use Rattle.sf_versions.proofs.TakenLemmas.{shorter, one, filled, taken_versions, shorter_is}
 use Rattle.sf_versions.proofs.versions.Versions.forget.Goals as goal
