@@ -1,9 +1,10 @@
 ghost use Rattle.std.specs.Prelude.{◌/◌};
 
 use crate::names::row_name;
-use sf_room_map::{Change, RoomMap};
+use sf_room_map::{Change, Exchange, RoomMap};
 use sf_types::{Mem, Name};
 use std::alloc::Global;
+use std::mem;
 use std::test::*;
 
 // The rows b and a, the one put with room and the other without.
@@ -46,6 +47,36 @@ fn changes_every_value(rt: HostRuntime) -> Result<(), Fail> {
     rows.change_values(&Half);
     assert_eq!(rt; rows.get(&row_name(alloc, b"a")?).copied(), Some(0));
     assert_eq!(rt; rows.get(&row_name(alloc, b"b")?).copied(), Some(1));
+    Ok(())
+}
+
+// A number that is put in place of another, which is taken.
+#[derive(Drop)]
+struct Taken {
+    number: u64,
+}
+
+impl Exchange<u64> for Taken {
+    ghost given = { λ taken value. taken.number };
+
+    ghost taken = { λ taken value. record { number = value } };
+
+    fn exchange(&mut self, value: &mut u64) {
+        mem::swap(&mut self.number, value);
+    }
+}
+
+#[test]
+fn exchanges_a_value(rt: HostRuntime) -> Result<(), Fail> {
+    let alloc = rt.alloc();
+    let mut rows = two_rows(alloc)?;
+    let a = row_name(alloc, b"a")?;
+    let mut other = Taken { number: 9 };
+    if rows.contains_key(&a) {
+        rows.exchange(&a, &mut other);
+    }
+    assert_eq!(rt; other.number, 1);
+    assert_eq!(rt; rows.get(&a).copied(), Some(9));
     Ok(())
 }
 
