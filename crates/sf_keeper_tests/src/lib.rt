@@ -13,3 +13,5 @@ mod room_map;
 mod row_locks;
 #[cfg(test)]
 mod sorted_map;
+#[cfg(test)]
+mod versions;
