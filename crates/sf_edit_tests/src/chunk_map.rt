@@ -5,7 +5,7 @@ use std::alloc::Global;
 use std::test::*;
 
 // The fresh bytes of a short text.
-fn fresh(alloc: Global, text: &[u8]) -> Mem<Map> {
+pub fn fresh(alloc: Global, text: &[u8]) -> Mem<Map> {
     if text.len() > 100 {
         return Err(OutOfMemory);
     }
@@ -21,8 +21,8 @@ fn stored(alloc: Global) -> Mem<Map> {
 }
 
 // A splice of short values.
-fn splice(map: &mut Map, at: u64, remove: u64, with: Map) -> Mem<Map> {
-    let is_short = map.len() < 10_000 && with.len() < 10_000;
+pub fn splice(map: &mut Map, at: u64, remove: u64, with: Map) -> Mem<Map> {
+    let is_short = map.len() < 1_000_000 && with.len() < 1_000_000;
     if is_short && remove <= map.len() && at <= map.len() - remove {
         map.splice_in(at, remove, with)
     } else {
@@ -39,7 +39,7 @@ fn bytes_of(alloc: Global, map: &Map) -> Mem<Vec<u8>> {
 }
 
 // `xbcdy`: fresh, stored and fresh bytes, of which two zeros were taken out again.
-fn spliced(alloc: Global) -> Mem<Map> {
+pub fn spliced(alloc: Global) -> Mem<Map> {
     let mut map = fresh(alloc, b"xy")?;
     drop(splice(&mut map, 1, 0, stored(alloc)?)?);
     drop(splice(&mut map, 1, 0, Map::zeros(alloc, 2)?)?);
