@@ -45,8 +45,8 @@ fn entries_stand_in_order(rt: HostRuntime) -> Result<(), Fail> {
     assert_eq!(rt; map.at_most(&8).map(|(key, _)| *key), Some(5));
     assert_eq!(rt; map.at_most(&2).map(|(key, _)| *key), None);
     map.change_values(&Third);
-    assert!(rt; map.remove(&5));
-    assert!(rt; !map.remove(&5));
+    assert_eq!(rt; map.remove(&5), Some(16));
+    assert_eq!(rt; map.remove(&5), None);
     assert_eq!(rt;
         entries(alloc, &map)?.as_slice(),
         [(3, 10), (9, 30)].as_slice()

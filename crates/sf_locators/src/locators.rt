@@ -1,5 +1,5 @@
 //! The locators of a session, by name.
-ghost use Rattle.std.specs.Prelude.{◌≡◌, ◌≤◌, [], false, not, length, slice_get, OnOk};
+ghost use Rattle.std.specs.Prelude.{◌≡◌, ◌+◌, ◌≤◌, [], false, true, not, length, slice_get, IsSome, Some, OnOk};
 ghost use Rattle.std.specs.Option.{option_copied, option_map};
 ghost use Rattle.std.specs.Map.{keys_of};
 ghost use Rattle.std.specs.Map.Iter.{deref_pair};
@@ -8,7 +8,7 @@ ghost use Rattle.sf_types.specs.declared.limits.TheConstants.{SESSION_LOCATORS};
 ghost use Rattle.sf_types.specs.Rooms.{MakesRoom, GrowsWithin};
 ghost use Rattle.sf_types.specs.Values.Names.{name_cmp};
 ghost use Rattle.sf_types.specs.Inside.NameMaps.{get, has, with_entry, without_entry};
-ghost use Rattle.sf_types.specs.Table.Parts.{Savepoint, Session};
+ghost use Rattle.sf_types.specs.Table.Parts.{Locator as TableLocator, Savepoint, Session};
 ghost use Rattle.sf_types.specs.Table.Sessions.{lacks_room, transaction_number};
 ghost use Rattle.sf_types.specs.Calls.Refusals.{first_refusal};
 ghost use Rattle.sf_types.specs.Calls.Savepoints.{is_since, with_losses};
@@ -16,8 +16,9 @@ ghost use Rattle.sf_types.specs.Calls.TransactionEnds.{clean_locators};
 ghost use Rattle.sf_locators.specs.LocatorWrites.{session_with, write_refusals, locators_added};
 ghost use Rattle.sf_locators.specs.Inside.LocatorFaults.{fault_of};
 
-use crate::changes::{Cleaning, Loss, LossSince};
+use crate::changes::{Cleaning, Loss, LossSince, WriteThrough};
 use crate::locator::Locator;
+use sf_chunk_map::Map;
 use sf_sorted_map::SortedMap;
 use sf_types::{Fault, LocName, Mem, SESSION_LOCATORS};
 use std::alloc::Global;
@@ -122,13 +123,52 @@ impl Locators {
         self.locators.insert(name, locator)
     }
 
+    /// Sets the locator of a name, for which there has to be room, and gives the one that it had. It takes no memory.
+    pub fn set_within(&mut self, name: LocName, locator: Locator) -> Option<Locator>
+        requires limit { lacks_room (session_with self.old.held) name ≡ false }
+        requires room { locators_added self.old.held name ≤ self.old.spare }
+        ensures old { result ≡ get self.old.held name }
+        ensures held { self.new.held ≡ with_entry self.old.held name locator }
+        ensures spare { self.old.spare ≤ self.new.spare + locators_added self.old.held name }
+    {
+        let _locators = self.locators.len();
+        if self.locators.get(&name).is_some() {
+            Some(self.locators.replace(&name, locator))
+        } else {
+            self.locators.insert_within(name, locator);
+            None
+        }
+    }
+
+    /// Takes a locator away, and gives it. None exactly where there is none of that name. It takes no memory.
+    pub fn take(&mut self, name: &LocName) -> Option<Locator>
+        ensures taken { result ≡ get self.old.held name.now }
+        ensures held { self.new.held ≡ without_entry self.old.held name.now }
+        ensures spare { self.old.spare ≤ self.new.spare }
+    {
+        self.locators.remove(name)
+    }
+
     /// Takes a locator away. False exactly where there is none of that name. It takes no memory.
     pub fn free(&mut self, name: &LocName) -> bool
         ensures freed { result ≡ has self.old.held name.now }
         ensures held { self.new.held ≡ without_entry self.old.held name.now }
         ensures spare { self.old.spare ≤ self.new.spare }
     {
-        self.locators.remove(name)
+        self.take(name).is_some()
+    }
+
+    /// Gives a locator that is there the value that was written through it, in the transaction with the number `txn` and the
+    /// session's epoch: it is dirty then. It takes no memory.
+    pub fn write(&mut self, name: &LocName, map: Map, txn: u64, epoch: u64)
+        requires { IsSome (get self.old.held name.now) }
+        ensures held { (l : TableLocator) → get self.old.held name.now ≡ Some l → self.new.held ≡ with_entry self.old.held name.now (record l { value = map; transaction = txn; epoch = epoch; is_dirty = true }) }
+        ensures spare { self.new.spare ≡ self.old.spare }
+    {
+        // The names rise, so that no locator is added.
+        let _locators = self.locators.len();
+        let mut write = WriteThrough { map, txn, epoch };
+        self.locators.exchange(name, &mut write);
     }
 
     /// Makes all locators clean, as a commit does. It takes no memory.

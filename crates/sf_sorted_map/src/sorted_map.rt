@@ -1,5 +1,5 @@
 //! A map as a sorted vector of its entries.
-ghost use Rattle.std.specs.Prelude.{◌≡◌, ◌+◌, ◌≤◌, [], length, map, is_some, slice_get, IsSome, Some, IfOk, IfErr, OnOk};
+ghost use Rattle.std.specs.Prelude.{◌≡◌, ◌+◌, ◌≤◌, [], length, map, filter, slice_get, IsSome, Some, IfOk, IfErr, OnOk};
 ghost use Rattle.std.specs.Option.{option_copied, option_map};
 ghost use Rattle.std.specs.Map.{keys_of};
 ghost use Rattle.std.specs.Map.Iter.{deref_pair};
@@ -9,7 +9,7 @@ ghost use Rattle.sf_room_map.specs.Entries.{value_for, with_value, without_key, 
 ghost use Rattle.sf_sorted_map.specs.UpTo.{entry_up_to};
 ghost use Rattle.sf_sorted_map.specs.Inside.Places.{IsFound, IsGap};
 
-use sf_room_map::{Change, RoomKey};
+use sf_room_map::{Change, Exchange, KeyTest, RoomKey};
 use sf_types::Mem;
 use std::alloc::Global;
 use std::marker::Model;
@@ -68,6 +68,14 @@ impl<K: RoomKey, V> SortedMap<K, V> {
         SortedMap {
             entries: Vec::new(alloc),
         }
+    }
+
+    /// The map of these entries, whose keys have to rise. It takes no memory.
+    pub fn from_entries(entries: Vec<(K, V)>) -> SortedMap<K, V>
+        requires { IsStrictlySortedBy K.cmp (keys_of entries.items) }
+        ensures { result.held ≡ entries.items }
+    {
+        SortedMap { entries }
     }
 
     /// Makes room for so many entries more, which `insert` then takes without memory.
@@ -130,6 +138,19 @@ impl<K: RoomKey, V> SortedMap<K, V> {
         mem::replace(&mut self.entries[at].1, value)
     }
 
+    /// Makes an exchange with the value at a key that is there. It takes no memory.
+    pub fn exchange<E: Exchange<V>>(&mut self, key: &K, other: &mut E)
+        requires { IsSome (value_for K.cmp self.old.held key.now) }
+        ensures held { (value : V) → value_for K.cmp self.old.held key.now ≡ Some value → self.new.held ≡ with_value K.cmp self.old.held key.now (E.given other.old value) }
+        ensures other { (value : V) → value_for K.cmp self.old.held key.now ≡ Some value → other.new ≡ E.taken other.old value }
+        ensures spare { self.new.spare ≡ self.old.spare }
+    {
+        let Ok(at) = search(&self.entries, key) else {
+            unreachable!();
+        };
+        other.exchange(&mut self.entries[at].1);
+    }
+
     /// Makes a change to every value. It takes no memory.
     pub fn change_values<C: Change<V>>(&mut self, change: &C)
         ensures held { self.new.held ≡ map (λ e. (e.0, C.changed change.now e.1)) self.old.held }
@@ -175,18 +196,23 @@ impl<K: RoomKey + Drop, V: Drop> SortedMap<K, V> {
         };
     }
 
-    /// Takes the entry of a key away. False exactly where there was none. It takes no memory.
-    pub fn remove(&mut self, key: &K) -> bool
-        ensures removed { result ≡ is_some (value_for K.cmp self.old.held key.now) }
+    /// Takes the entry of a key away, and gives its value. It takes no memory.
+    pub fn remove(&mut self, key: &K) -> Option<V>
+        ensures value { result ≡ value_for K.cmp self.old.held key.now }
         ensures held { self.new.held ≡ without_key K.cmp self.old.held key.now }
         ensures spare { self.old.spare ≤ self.new.spare }
     {
         match search(&self.entries, key) {
-            Ok(at) => {
-                self.entries.remove(at);
-                true
-            }
-            Err(_) => false,
+            Ok(at) => Some(self.entries.remove(at).1),
+            Err(_) => None,
         }
+    }
+
+    /// Keeps the entries whose keys pass a test. It takes no memory.
+    pub fn retain<T: KeyTest<K>>(&mut self, test: &T)
+        ensures held { self.new.held ≡ filter (λ e. T.passes test.now e.0) self.old.held }
+        ensures spare { self.old.spare ≤ self.new.spare }
+    {
+        self.entries.retain(|entry| test.passes(&entry.0));
     }
 }

@@ -1,5 +1,4 @@
-use Rattle.std.proofs.Common.{◌∙◌, ap, sym, subst}
-use Rattle.std.specs.Prelude.{is_some}
+use Rattle.std.proofs.Common.{◌∙◌, ap, sym, subst, Some}
 use Rattle.std.specs.Map.{keys_of}
 use Rattle.std.specs.List.Sorted.{IsStrictlySortedBy}
 use Rattle.sf_room_map.specs.Entries.{value_for, without_key}
@@ -16,13 +15,14 @@ invariant_of-self g c =
     subst (λ es. IsStrictlySortedBy order (keys_of es)) (without_found order es key c.in-Ok.at found ∙ sym c.remove.ensures.items)
     (rising_without order g.met.K.Ord.total es key c.self.invariant)
 
-pub returns-in-Ok-clause-removed : goal.returns-in-Ok-clause-removed
-returns-in-Ok-clause-removed g c =
+pub returns-in-Ok-clause-value : goal.returns-in-Ok-clause-value
+returns-in-Ok-clause-value g c =
     let order = g.K.Ord.cmp in
     let key = c.args.key.now in
     let found = subst (λ es. IsFound order es key c.in-Ok.at) c.deref.ensures.value c.in-Ok.ensures.found in
-    ap is_some (sym (value_found order c.self.inside.entries.items key c.in-Ok.at c.remove.result found))
-    ∙ ap (λ v. is_some (value_for order v.held key)) c.self.view_is
+    ap (λ e. Some e.1) c.remove.ensures.value
+    ∙ sym (value_found order c.self.inside.entries.items key c.in-Ok.at c.remove.result found)
+    ∙ ap (λ v. value_for order v.held key) c.self.view_is
 
 pub returns-in-Ok-clause-held : goal.returns-in-Ok-clause-held
 returns-in-Ok-clause-held g c =
@@ -32,13 +32,13 @@ returns-in-Ok-clause-held g c =
     c.remove.ensures.items ∙ sym (without_found order c.self.inside.entries.items key c.in-Ok.at found)
     ∙ ap (λ v. without_key order v.held key) c.self.view_is
 
-pub returns-in-Err-clause-removed : goal.returns-in-Err-clause-removed
-returns-in-Err-clause-removed g c =
+pub returns-in-Err-clause-value : goal.returns-in-Err-clause-value
+returns-in-Err-clause-value g c =
     let order = g.K.Ord.cmp in
     let key = c.args.key.now in
     let gap = subst (λ es. IsGap order es key c.in-Err.field-0) c.deref.ensures.value c.in-Err.ensures.gap in
-    ap is_some (sym (value_in_gap order c.self.inside.entries.items key c.in-Err.field-0 gap))
-    ∙ ap (λ v. is_some (value_for order v.held key)) c.self.view_is
+    sym (value_in_gap order c.self.inside.entries.items key c.in-Err.field-0 gap)
+    ∙ ap (λ v. value_for order v.held key) c.self.view_is
 
 pub returns-in-Err-clause-held : goal.returns-in-Err-clause-held
 returns-in-Err-clause-held g c =

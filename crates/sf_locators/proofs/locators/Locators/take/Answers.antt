@@ -1,6 +1,6 @@
 use Rattle.std.proofs.Common.{arith, ap, length}
 use Rattle.sf_locators.proofs.LocatorLemmas.{fewer_without}
-use Rattle.sf_locators.proofs.locators.Locators.free.Goals as goal
+use Rattle.sf_locators.proofs.locators.Locators.take.Goals as goal
 
 pub invariant_of-self : goal.invariant_of-self
 invariant_of-self c =
