@@ -7,7 +7,7 @@ ghost use Rattle.std.specs.declared.cmp.Ordering.TheVariants.{Less};
 ghost use Rattle.sf_types.specs.Values.Names.{name_cmp};
 
 use sf_chunk_map::Map;
-use sf_types::{Mem, Name};
+use sf_types::{Mem, Name, TryCopy};
 use std::alloc::Global;
 use std::marker::Model;
 
@@ -25,6 +25,19 @@ impl Model for Change {
     ghost Value = { List ℕ × Option RowValue };
 
     ghost view = { λ change. (change.name, change.value) };
+}
+
+impl TryCopy for Change {
+    fn copy(&self) -> Mem<Change> {
+        let value = match &self.value {
+            Some(map) => Some(map.copy()?),
+            None => None,
+        };
+        Ok(Change {
+            name: self.name.copy()?,
+            value,
+        })
+    }
 }
 
 /// The changes of a commit, seen as the rules' `Rows`: their names rise in byte order, each once.
@@ -87,5 +100,15 @@ impl ChangeList {
     {
         let ChangeList { changes } = self;
         changes
+    }
+}
+
+impl TryCopy for ChangeList {
+    fn copy(&self) -> Mem<ChangeList> {
+        let mut changes = Vec::with_capacity(*self.changes.allocator(), self.changes.len())?;
+        for change in &self.changes {
+            changes.push(change.copy()?)?;
+        }
+        Ok(ChangeList { changes })
     }
 }

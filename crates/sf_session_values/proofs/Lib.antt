@@ -1,0 +1,4 @@
+pub mod SharingLemmas
+pub mod EntryBirthLemmas
+pub mod RowWalkLemmas
+pub mod OwnEntryLemmas

@@ -1,0 +1,3 @@
+-- Words that serve the proofs of a session's values alone.
+pub mod Sharing
+pub mod EntryBirths
