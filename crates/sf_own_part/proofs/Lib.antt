@@ -1,0 +1,2 @@
+pub mod LockedLemmas
+pub mod WriteLemmas

@@ -1,0 +1,3 @@
+pub mod OwnWrites
+pub mod Readiness
+pub mod Inside
