@@ -1,6 +1,6 @@
 //! Where trees meet: pieces that go on in one another become one piece.
 ghost use Rattle.std.specs.Prelude.{◌≡◌, ◌+◌, ◌<◌, ◌≤◌, ◌^◌, ◌++◌, ◌↔◌, length, true, IsTrue, IfOk, IfSome};
-ghost use Rattle.sf_types.specs.declared.limits.TheConstants.{CONTENT_BYTES as CONTENT_SIZE, OBJECT_BYTES};
+ghost use Rattle.sf_types.specs.declared.limits.TheConstants.{OBJECT_BYTES};
 ghost use Rattle.sf_chunk_map.specs.Contents.{bytes_of_part};
 ghost use Rattle.sf_chunk_map.specs.declared.parts.Piece.TheVariants.{Stored};
 ghost use Rattle.sf_chunk_map.specs.MaximalPieces.{GoesOn};
@@ -9,7 +9,7 @@ ghost use Rattle.sf_chunk_map.specs.Inside.Seams.{IsSeam};
 
 use crate::parts::{FreshPart, Piece, StoredPart, ZeroPart};
 use sf_piece_tree::PieceTree;
-use sf_types::{Blob, CONTENT_BYTES, Mem, TryCopy};
+use sf_types::{Blob, Mem, TryCopy};
 use std::alloc::Global;
 
 /// Which of two neighbours is the old one.
@@ -43,7 +43,7 @@ fn joined_stored(left: &StoredPart, right: &StoredPart) -> Option<StoredPart>
 
 // Fresh bytes of two parts, copied into one.
 fn joined_bytes(alloc: Global, left: &FreshPart, right: &FreshPart) -> Mem<FreshPart>
-    requires { length left.now + length right.now ≤ CONTENT_SIZE }
+    requires { length left.now + length right.now ≤ OBJECT_BYTES }
     ensures { IfOk result (λ part. part ≡ left.now ++ right.now) }
 {
     let mut bytes = Vec::with_capacity(alloc, (left.len() + right.len()) as usize)?;
@@ -52,23 +52,16 @@ fn joined_bytes(alloc: Global, left: &FreshPart, right: &FreshPart) -> Mem<Fresh
     Ok(FreshPart::new(Blob::from_vec(bytes)?))
 }
 
-// Whether fresh neighbours are joined: the old one is less than twice as long as the new one, and both together aren't longer
-// than a content may be. So small appends leave few pieces, and a byte is copied seldom.
-fn is_short(old: u32, new: u32) -> bool
-    ensures { result ≡ true → old + new ≤ CONTENT_SIZE }
-{
-    let old = u64::from(old);
-    let new = u64::from(new);
-    old < 2 * new && old + new <= CONTENT_BYTES
-}
-
-// Two fresh parts as one, where they are short enough. None also where memory is wanted.
+// Two fresh parts as one, where the old one is less than twice as long as the new one. So the fresh neighbours that small
+// appends leave are few, each at least twice as long as the next, and a byte is copied seldom. None also where memory is wanted.
 fn joined_fresh(alloc: Global, left: &FreshPart, right: &FreshPart, old: Old) -> Option<FreshPart>
+    requires { length left.now + length right.now ≤ OBJECT_BYTES }
     ensures { IfSome result (λ part. part ≡ left.now ++ right.now) }
 {
+    let (first, second) = (u64::from(left.len()), u64::from(right.len()));
     let is_joined = match old {
-        Old::Left => is_short(left.len(), right.len()),
-        Old::Right => is_short(right.len(), left.len()),
+        Old::Left => first < 2 * second,
+        Old::Right => second < 2 * first,
     };
     if is_joined {
         joined_bytes(alloc, left, right).ok()
@@ -79,7 +72,7 @@ fn joined_fresh(alloc: Global, left: &FreshPart, right: &FreshPart, old: Old) ->
 
 // Two pieces as one, where the second goes on in the first. None also where memory is wanted.
 fn joined(alloc: Global, left: &Piece, right: &Piece, old: Old) -> Option<Piece>
-    requires { length (marked_of left.now) + length (marked_of right.now) < 2 ^ 64 }
+    requires { length (marked_of left.now) + length (marked_of right.now) ≤ OBJECT_BYTES }
     ensures { IfSome result (λ piece. marked_of piece ≡ marked_of left.now ++ marked_of right.now) }
 {
     match (left, right) {
@@ -98,7 +91,7 @@ fn joined(alloc: Global, left: &Piece, right: &Piece, old: Old) -> Option<Piece>
 
 // The last piece of a tree and the first one of another as one, where the second goes on in the first.
 fn seam(first: &PieceTree<Piece>, second: &PieceTree<Piece>, old: Old) -> Option<Piece>
-    requires { length (marked_in first.now) + length (marked_in second.now) < 2 ^ 64 }
+    requires { length (marked_in first.now) + length (marked_in second.now) ≤ OBJECT_BYTES }
     ensures { IfSome result (IsSeam first.now second.now) }
 {
     let left = first.last()?;
