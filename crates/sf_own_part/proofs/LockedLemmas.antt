@@ -1,14 +1,18 @@
 -- The names of rows, one after the other, and savepoints up to one.
-use Rattle.std.proofs.Common.{◌≡◌, ℕ, zero, suc, ◌+◌, arith, Bool, true, false, cond, not, length, List, [], ◌∷◌, ◌++◌, map, take, Option, Some, None, refl, sym, ap, ◌∙◌, add-one}
-use Rattle.std.specs.Prelude.{slice_get, slice_index_or, nat_lt, find, filter}
+use Rattle.std.proofs.Common.{◌≡◌, ℕ, zero, suc, ◌+◌, ◌≤◌, arith, append_assoc, append-nil, drop, Bool, true, false, cond, not, length, List, [], ◌∷◌, ◌++◌, map, take, Option, Some, None, refl, sym, ap, ◌∙◌, add-one}
+use Rattle.std.specs.Prelude.{slice_get, slice_index_or, nat_lt, find, filter, flat_map}
+use Rattle.std.specs.Option.{option_map_or}
+use Rattle.std.proofs.lemmas.List.{drop_all, take_all}
 use Rattle.std.specs.List.{list_any, position, position_or_len, prefix_len}
 use Rattle.std.proofs.lemmas.List.Folds.{find_at}
 use Rattle.sf_types.specs.Inside.NameMaps.{is_same_name}
 use Rattle.sf_types.proofs.NameMapLemmas.{same_name}
+use Rattle.sf_types.specs.Values.Marks.{Value}
 use Rattle.sf_types.specs.Table.Parts.{Rows, Savepoint, Session}
 use Rattle.sf_types.specs.Calls.Savepoints.{savepoints_up_to, is_since, with_losses, after_rollback_to}
 use Rattle.sf_types.specs.Halves.Own.{Own}
 use Rattle.sf_session_values.specs.Values.{ValuesView}
+use Rattle.sf_own_part.specs.Inside.Unlocking.{unlocked}
 
 -- the names of the first k + 1 rows
 pub name_taken : {X Y : Type 0} (rows : List (X × Y)) (k : ℕ) (e : X × Y) → slice_get rows k ≡ Some e → take (k + 1) (map (λ e. e.0) rows) ≡ take k (map (λ e. e.0) rows) ++ e.0 ∷ []
@@ -80,6 +84,18 @@ up_to_placed name xs at x is found =
     ap (λ n. take (n + 1) xs) (sym (place_is (is_named name) xs at is)) ∙ sym (up_to_taken name xs)
     ∙ ap (λ n. savepoints_up_to n xs) (same_name name x.name (find_passes (is_named name) xs x found))
 
+pub up_to_place : (name : List ℕ) (xs : List Savepoint) (at : ℕ) → position (λ x. is_same_name name x.name) xs ≡ Some at → take (at + 1) xs ≡ savepoints_up_to name xs
+up_to_place name xs at is = ap (λ n. take (n + 1) xs) (sym (place_is (is_named name) xs at is)) ∙ sym (up_to_taken name xs)
+
+past_all : {X : Type 0} (p : X → Bool) (xs : List X) → position p xs ≡ None → nat_lt (position_or_len p xs) (length xs) ≡ false
+past_all p xs is =
+    elim (nat_lt (position_or_len p xs) (length xs)) as (λ b. cond b (Some (position_or_len p xs)) None ≡ None → b ≡ false) [ true ↦ λ bad. absurd cc | false ↦ λ _. refl ] is
+
+pub up_to_all : (name : List ℕ) (xs : List Savepoint) → position (λ x. is_same_name name x.name) xs ≡ None → xs ≡ savepoints_up_to name xs
+up_to_all name xs is =
+    let most : length xs ≤ position_or_len (is_named name) xs = grind (arith, past_all (is_named name) xs is) in
+    sym (up_to_taken name xs ∙ take_all (position_or_len (is_named name) xs + 1) xs (omega (arith, most)))
+
 pub indexed : {X : Type 0} (xs : List X) (k : ℕ) (x d : X) → slice_get xs k ≡ Some x → slice_index_or xs k d ≡ x
 indexed [] k x d is = absurd cc
 indexed (y ∷ xs) zero x d is = cc
@@ -98,3 +114,31 @@ rolled_back_to p before rows after v savepoints x restored values kept left =
     ∙ ap (λ (r : Rows). own_by p (record { working = r; locators = with_losses (is_since x) p.locators }) savepoints after) restored
     ∙ ap (λ s. own_by p (record { working = x.working; locators = with_losses (is_since x) p.locators }) s after) kept
     ∙ ap (own_by p (record { working = x.working; locators = with_losses (is_since x) p.locators }) (savepoints_up_to x.name p.savepoints)) left
+
+-- What is added row by row.
+rest_at : {X Y : Type 0} (f : X → List Y) (xs : List X) (k : ℕ) → flat_map f (drop k xs) ≡ option_map_or f (slice_get xs k) [] ++ flat_map f (drop (suc k) xs)
+rest_at f [] zero = refl
+rest_at f [] (suc k) = refl
+rest_at f (x ∷ xs) zero = refl
+rest_at f (x ∷ xs) (suc k) = rest_at f xs k
+
+pub part_added : {X Y : Type 0} (f : X → List Y) (xs : List X) (k : ℕ) (before after all : List Y) → before ++ flat_map f (drop k xs) ≡ all → after ≡ before ++ option_map_or f (slice_get xs k) [] → after ++ flat_map f (drop (k + 1) xs) ≡ all
+part_added f xs k before after all is added =
+    let here = option_map_or f (slice_get xs k) [] in
+    let later = flat_map f (drop (suc k) xs) in
+    ap (λ j. after ++ flat_map f (drop j xs)) (add-one k)
+    ∙ ap (λ ys. ys ++ later) added
+    ∙ append_assoc before here later
+    ∙ ap (λ ys. before ++ ys) (sym (rest_at f xs k))
+    ∙ is
+
+pub all_added : {X Y : Type 0} (f : X → List Y) (xs : List X) (k : ℕ) (added all : List Y) → added ++ flat_map f (drop k xs) ≡ all → length xs ≤ k → added ≡ all
+all_added f xs k added all is most = sym (append-nil added) ∙ ap (λ ys. added ++ flat_map f ys) (sym (drop_all k xs most)) ∙ is
+
+pub unlocked_rows : (named : List (List ℕ)) (rows : Rows) → flat_map (unlocked named) rows ≡ filter (λ row. not (list_any (is_same_name row) named)) (map (λ e. e.0) rows)
+unlocked_rows named [] = refl
+unlocked_rows named (row ∷ rows) =
+    elim (list_any (is_same_name row.0) named) as (λ b. cond b [] (row.0 ∷ []) ++ flat_map (unlocked named) rows ≡ cond (not b) (row.0 ∷ filter (λ name. not (list_any (is_same_name name) named)) (map (λ (e : List ℕ × Option Value). e.0) rows)) (filter (λ name. not (list_any (is_same_name name) named)) (map (λ (e : List ℕ × Option Value). e.0) rows))) [
+      | true ↦ unlocked_rows named rows
+      | false ↦ ap (λ (names : List (List ℕ)). row.0 ∷ names) (unlocked_rows named rows)
+    ]

@@ -1,3 +1,4 @@
+pub mod Ends
 pub mod OwnWrites
 pub mod Readiness
 pub mod Inside

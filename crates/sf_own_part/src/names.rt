@@ -1,7 +1,8 @@
-//! The locators that a writing call names.
+//! The kinds of calls, and the locators that a writing call names.
 ghost use Rattle.std.specs.Prelude.{◌≡◌};
 ghost use Rattle.std.specs.Option.{option_copied};
 ghost use Rattle.sf_types.specs.Calls.WritingCalls.{written_name, source_name};
+ghost use Rattle.sf_types.specs.Halves.Own.{is_event};
 
 use sf_types::{Call, LocName};
 
@@ -33,5 +34,23 @@ pub fn source_name(call: &Call) -> Option<&LocName>
         Call::Append { from, .. } => Some(from),
         Call::Copy { from, .. } => Some(from),
         _ => None,
+    }
+}
+
+/// Whether a call is an event: a row call, RollbackTo, or an end of a transaction or of the session.
+pub fn is_event(call: &Call) -> bool
+    ensures { result ≡ is_event call.now }
+{
+    match call {
+        Call::Insert { .. } => true,
+        Call::Delete { .. } => true,
+        Call::Lock { .. } => true,
+        Call::Select { .. } => true,
+        Call::SelectAsOf { .. } => true,
+        Call::RollbackTo { .. } => true,
+        Call::Commit => true,
+        Call::Rollback => true,
+        Call::End => true,
+        _ => false,
     }
 }

@@ -1,4 +1,7 @@
 //! Savepoints of a session.
+ghost use Rattle.std.specs.Prelude.{◌≡◌};
+ghost use Rattle.std.specs.List.{list_any};
+ghost use Rattle.sf_types.specs.Inside.NameMaps.{is_same_name};
 
 use sf_types::{List, LocName, Name};
 use sf_versions::ChangeList;
@@ -20,4 +23,13 @@ impl Model for Savepoint {
     ghost Value = { TableSavepoint };
 
     ghost view = { λ s. record { name = s.name; epoch = s.epoch; working = s.working; locked = s.locked } };
+}
+
+impl Savepoint {
+    /// Whether the session had locked a row at the savepoint's moment.
+    pub fn names_row(&self, row: &Name) -> bool
+        ensures { result ≡ list_any (is_same_name row.now) self.now.locked }
+    {
+        self.locked.as_slice().iter().any(|other| *row == *other)
+    }
 }

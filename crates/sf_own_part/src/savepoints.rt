@@ -18,7 +18,7 @@ use sf_versions::ChangeList;
 // A test of rows: whether a savepoint names them.
 #[derive(Drop)]
 struct IsLocked<'a> {
-    names: &'a List<Name>,
+    savepoint: &'a Savepoint,
 }
 
 impl<'a> KeyTest<Name> for IsLocked<'a> {
@@ -26,20 +26,20 @@ impl<'a> KeyTest<Name> for IsLocked<'a> {
     ghost use Rattle.sf_types.specs.declared.limits.TheConstants.{SESSION_SAVEPOINTS as SESSION_SAVEPOINTS_MOST};
     ghost use Rattle.sf_types.specs.Inside.NameMaps.{is_same_name};
 
-    ghost passes = { λ test name. list_any (is_same_name name) test.names.now };
+    ghost passes = { λ test name. list_any (is_same_name name) test.savepoint.now.locked };
 
     fn passes(&self, name: &Name) -> bool {
-        self.names.as_slice().iter().any(|other| *name == *other)
+        self.savepoint.names_row(name)
     }
 }
 
 // The place of the savepoint of a name, counted from 0.
-fn position_of(savepoints: &[Savepoint], name: &LocName) -> Option<usize>
+pub fn position_of(savepoints: &[Savepoint], name: &[u8]) -> Option<usize>
     ensures { result ≡ position (λ x. is_same_name name.now x.name) savepoints.now }
 {
     savepoints
         .iter()
-        .position(|savepoint| *name == savepoint.name)
+        .position(|savepoint| *name == *savepoint.name.as_bytes())
 }
 
 // Puts a savepoint last, in the place of one of its name.
@@ -131,14 +131,12 @@ impl OwnPart {
               rows = filter (λ e. list_any (is_same_name e.0) x.locked) self.old.held.rows;
             } }
     {
-        let Some(at) = position_of(&self.savepoints, name) else {
+        let Some(at) = position_of(&self.savepoints, name.as_bytes()) else {
             return;
         };
         let savepoint = &self.savepoints[at];
         self.values.roll_back_to(savepoint.epoch, rows);
-        self.rows.retain(&IsLocked {
-            names: &savepoint.locked,
-        });
+        self.rows.retain(&IsLocked { savepoint });
         self.savepoints.truncate(at + 1);
     }
 }

@@ -1,0 +1,227 @@
+-- The births of a part, kind by kind, and those that a session holds after a call.
+use Rattle.std.proofs.Common.{◌≡◌, ℕ, Bool, true, false, cond, List, [], ◌∷◌, ◌++◌, map, Option, Some, None, refl, sym, ap, subst, ◌∙◌, append_assoc, append-nil}
+use Rattle.std.specs.Prelude.{Contains, flat_map, unwrap_or, IfSome}
+use Rattle.std.specs.List.{AllByRecursion as Each}
+use Rattle.std.specs.Option.{option_map_or}
+use Rattle.std.proofs.lemmas.Grind.{flat_map-append}
+use Rattle.sf_types.specs.declared.call.Call.{Call}
+use Rattle.sf_types.specs.declared.call.Call.TheVariants as call
+use Rattle.std.specs.List.Sorted.{IsStrictlySortedBy}
+use Rattle.sf_types.proofs.NameMapLemmas.{sorted_from_ordered}
+use Rattle.std.specs.Map.{keys_of}
+use Rattle.sf_types.specs.Values.Names.{name_cmp}
+use Rattle.sf_types.specs.Inside.Births.{IsRising, rising_births}
+use Rattle.sf_types.specs.Inside.NameMaps.{NameMap, is_same_name, get, with_entry, without_entry}
+use Rattle.sf_types.proofs.NameMapLemmas.{IsRisingMap}
+use Rattle.sf_types.specs.Values.Marks.{Value, empty_value, births_in}
+use Rattle.sf_types.specs.Table.Parts.{Locator, Rows, Savepoint, Session}
+use Rattle.sf_types.specs.Table.Sessions.{with_transaction}
+use Rattle.sf_types.specs.Calls.RowCalls.{after_insert, after_delete, after_lock, after_select}
+use Rattle.sf_types.specs.Calls.Savepoints.{after_rollback_to, with_losses, is_since, savepoints_up_to}
+use Rattle.sf_types.specs.Calls.TransactionEnds.{after_commit, after_rollback, clean_locators}
+use Rattle.sf_types.specs.Calls.LocatorCalls.{no_locator}
+use Rattle.sf_types.specs.Calls.WritingCalls.{written_name}
+use Rattle.sf_types.specs.Space.Reach.{values_in, session_values, session_births}
+use Rattle.sf_types.specs.Halves.Own.{Own, own_row, is_event}
+use Rattle.sf_types.specs.Halves.Asks.{kept_births}
+use Rattle.sf_laws.proofs.EachLemmas.{each_contained, each_itself, each-append, each_left, each_right}
+use Rattle.sf_laws.proofs.HeldLemmas.{OfOption}
+use Rattle.sf_laws.proofs.ReachLemmas.{OfBirth, each-rising, each_from_rising, each-births_in, each_from_births_in, each-session_births, each_from_session_births}
+use Rattle.sf_laws.proofs.SessionBirthLemmas.{same_rising, each_put_from, each_of_put, births_put}
+use Rattle.sf_laws.proofs.SumLemmas.{rising_rises}
+use Rattle.sf_session_values.specs.ValueBirths.{rows_beside, locators_beside, births_of_rows, births_of_locators}
+use Rattle.sf_own_part.specs.Inside.PartBirths.{part_beside, part_after_commit, births_of_savepoints}
+
+by_savepoint : (savepoints : List Savepoint) → flat_map births_in (flat_map (λ x. values_in x.working) savepoints) ≡ births_of_savepoints savepoints
+by_savepoint [] = refl
+by_savepoint (x ∷ savepoints) =
+    flat_map-append births_in (values_in x.working) (flat_map (λ y. values_in y.working) savepoints)
+    ∙ ap (λ bs. births_of_rows x.working ++ bs) (by_savepoint savepoints)
+
+-- a part's births are those of its rows, then of its locators, then of its savepoints
+pub births_by_parts : (p : Session) → session_births p ≡ rising_births ((births_of_rows p.working ++ births_of_locators p.locators) ++ births_of_savepoints p.savepoints)
+births_by_parts p =
+    let rows = values_in p.working in
+    let locators = map (λ (e : List ℕ × Locator). e.1.value) p.locators in
+    ap rising_births
+    (flat_map-append births_in (rows ++ locators) (flat_map (λ x. values_in x.working) p.savepoints)
+    ∙ ap (λ bs. bs ++ flat_map births_in (flat_map (λ x. values_in x.working) p.savepoints)) (flat_map-append births_in rows locators)
+    ∙ ap (λ bs. births_of_rows p.working ++ births_of_locators p.locators ++ bs) (by_savepoint p.savepoints))
+
+-- births added kind by kind are those of a part
+pub put_together : (p : Session) (row at : Option (List ℕ)) (none rows locators all : List ℕ) → none ≡ [] → rows ≡ none ++ births_of_rows (rows_beside row p.working)
+    → locators ≡ rows ++ births_of_locators (locators_beside at p.locators) → all ≡ locators ++ births_of_savepoints p.savepoints → rising_births all ≡ session_births (part_beside row at p)
+put_together p row at none rows locators all none_is rows_is locators_is all_is =
+    ap rising_births
+    (all_is ∙ ap (λ bs. bs ++ births_of_savepoints p.savepoints)
+    (locators_is ∙ ap (λ bs. bs ++ births_of_locators (locators_beside at p.locators)) (rows_is ∙ ap (λ bs. bs ++ births_of_rows (rows_beside row p.working)) none_is)))
+    ∙ sym (births_by_parts (part_beside row at p))
+
+-- and those of a part after a rollback to a savepoint
+pub rolled_together : (p : Session) (x : Savepoint) (none rows locators all : List ℕ) → none ≡ [] → rows ≡ none ++ births_of_rows x.working
+    → locators ≡ rows ++ births_of_locators (with_losses (is_since x) p.locators) → all ≡ locators ++ births_of_savepoints (savepoints_up_to x.name p.savepoints) → rising_births all ≡ session_births (after_rollback_to p x)
+rolled_together p x none rows locators all none_is rows_is locators_is all_is =
+    ap rising_births
+    (all_is ∙ ap (λ bs. bs ++ births_of_savepoints (savepoints_up_to x.name p.savepoints))
+    (locators_is ∙ ap (λ bs. bs ++ births_of_locators (with_losses (is_since x) p.locators)) (rows_is ∙ ap (λ bs. bs ++ births_of_rows x.working) none_is)))
+    ∙ sym (births_by_parts (after_rollback_to p x))
+
+-- births that are there already add none
+pub rising_with : (births more : List ℕ) → IsRising births → Each (Contains births) more → rising_births (births ++ more) ≡ births
+rising_with births more rising known =
+    same_rising (rising_births (births ++ more)) births (rising_rises (births ++ more)) rising
+    (each-rising (Contains births) (births ++ more) (each-append (Contains births) births more (each_itself births) known))
+    (let P : ℕ → Type 0 = Contains (rising_births (births ++ more)) in
+    each_left P births more (each_from_rising P (births ++ more) (each_itself (rising_births (births ++ more)))))
+
+-- a transaction that is opened holds no birth
+opened_births : (p : Session) (rows : Rows) → session_births (record (with_transaction p) { working = rows }) ≡ session_births (record p { working = rows })
+opened_births p rows = refl
+
+opened_births_of_locators : (p : Session) (locators : NameMap Locator) → session_births (record (with_transaction p) { locators = locators }) ≡ session_births (record p { locators = locators })
+opened_births_of_locators p locators = refl
+
+-- a row's value without births, put among the working values
+births_put_row : (p : Session) (row : List ℕ) (v : Option Value) → IsRisingMap p.working → ((P : ℕ → Type 0) → OfOption (OfBirth P) v)
+    → session_births (record p { working = with_entry p.working row v }) ≡ session_births (record p { working = without_entry p.working row })
+births_put_row p row v rising none =
+    let put_p : Session = record p { working = with_entry p.working row v } in
+    let left_p : Session = record p { working = without_entry p.working row } in
+    same_rising (session_births put_p) (session_births left_p) (rising_rises (flat_map births_in (session_values put_p))) (rising_rises (flat_map births_in (session_values left_p)))
+    (let P : ℕ → Type 0 = Contains (session_births left_p) in
+    let own = each_from_session_births P left_p (each_itself (session_births left_p)) in
+    each-session_births P put_p (record { working = each_put_from (OfOption (OfBirth P)) p.working row v rising (none P) own.working; locators = own.locators; savepoints = own.savepoints }))
+    (let P : ℕ → Type 0 = Contains (session_births put_p) in
+    let own = each_from_session_births P put_p (each_itself (session_births put_p)) in
+    let rows = each_of_put (OfOption (OfBirth P)) p.working row v rising own.working in
+    each-session_births P left_p (record { working = rows.1; locators = own.locators; savepoints = own.savepoints }))
+
+pub insert_births : (p : Session) (row : List ℕ) → IsRisingMap p.working → session_births (part_beside (Some row) None p) ≡ session_births (after_insert p row)
+insert_births p row rising = sym (opened_births p (with_entry p.working row (Some empty_value)) ∙ births_put_row p row (Some empty_value) rising (λ P. tt))
+
+pub delete_births : (p : Session) (row : List ℕ) → IsRisingMap p.working → session_births (part_beside (Some row) None p) ≡ session_births (after_delete p row)
+delete_births p row rising = sym (opened_births p (with_entry p.working row None) ∙ births_put_row p row None rising (λ P. tt))
+
+got : {X : Type 0} (Q : X → Type 0) (m : NameMap X) (k : List ℕ) (x : X) → get m k ≡ Some x → Each (λ e. Q e.1) m → Q x
+got Q [] k x is all = absurd cc
+got Q (e ∷ m) k x is all =
+    elim (is_same_name k e.0) as (λ b. cond b (Some e.1) (get m k) ≡ Some x → Q x) [
+      | true ↦ λ same. let one : e.1 ≡ x = cc in subst Q one all.0
+      | false ↦ λ later. got Q m k x later all.1
+    ] is
+
+-- the births of a row's working value are among those of a part
+known_births : (p : Session) (row : List ℕ) (v : Option Value) → get p.working row ≡ Some v → Each (Contains (session_births p)) (births_in (unwrap_or v empty_value))
+known_births p row None is = tt
+known_births p row (Some v) is =
+    let P : ℕ → Type 0 = Contains (session_births p) in
+    let own = each_from_session_births P p (each_itself (session_births p)) in
+    each-births_in P v (got (OfOption (OfBirth P)) p.working row (Some v) is own.working)
+
+-- a locator of a row with a working value holds no birth that the session doesn't hold beside it
+located : (p : Session) (to row : List ℕ) (v : Option Value) (l : Locator) → IsRisingMap p.locators → get p.working row ≡ Some v → l.value ≡ unwrap_or v empty_value
+    → session_births (record p { locators = with_entry p.locators to l }) ≡ session_births (part_beside None (Some to) p)
+located p to row v l rising is same =
+    let left_p = part_beside None (Some to) p in
+    births_put p to l rising
+    ∙ ap (λ value. rising_births (session_births left_p ++ births_in value)) same
+    ∙ rising_with (session_births left_p) (births_in (unwrap_or v empty_value)) (rising_rises (flat_map births_in (session_values left_p))) (known_births left_p row v is)
+
+pub lock_births : (o : Own) (to row : List ℕ) → IsRisingMap o.part.locators → session_births (part_beside None (Some to) o.part) ≡ kept_births o (call.Lock to row)
+lock_births o to row rising =
+    elim (get o.part.working row) as (λ found. get o.part.working row ≡ found → session_births (part_beside None (Some to) o.part) ≡ option_map_or (λ value. session_births (after_lock o.part to row (unwrap_or value empty_value))) found (session_births (part_beside None (Some to) o.part))) [
+      | None ↦ λ _. refl
+      | Some v ↦ λ is. sym (opened_births_of_locators o.part _ ∙ located o.part to row v _ rising is refl)
+    ] refl
+
+pub select_births : (o : Own) (to row : List ℕ) → IsRisingMap o.part.locators → session_births (part_beside None (Some to) o.part) ≡ kept_births o (call.Select to row)
+select_births o to row rising =
+    elim (get o.part.working row) as (λ found. get o.part.working row ≡ found → session_births (part_beside None (Some to) o.part) ≡ option_map_or (λ value. session_births (after_select o.part to row (unwrap_or value empty_value))) found (session_births (part_beside None (Some to) o.part))) [
+      | None ↦ λ _. refl
+      | Some v ↦ λ is. sym (located o.part to row v _ rising is refl)
+    ] refl
+
+-- the locators of a commit keep their births
+clean_births : (locators : NameMap Locator) → births_of_locators (clean_locators locators) ≡ births_of_locators locators
+clean_births [] = refl
+clean_births (l ∷ locators) = ap (λ bs. births_in l.1.value ++ bs) (clean_births locators)
+
+pub open_commit_births : (p : Session) → p.is_open ≡ true → rising_births (births_of_locators p.locators) ≡ session_births (part_after_commit p)
+open_commit_births p is_open =
+    sym (ap (λ b. session_births (cond b (after_commit p) (record p { savepoints = [] }))) is_open
+    ∙ births_by_parts (after_commit p)
+    ∙ ap rising_births (append-nil (births_of_locators (clean_locators p.locators)) ∙ clean_births p.locators))
+
+pub other_commit_births : (p : Session) → p.is_open ≡ false → session_births (record p { savepoints = [] }) ≡ session_births (part_after_commit p)
+other_commit_births p is_open = sym (ap (λ b. session_births (cond b (after_commit p) (record p { savepoints = [] }))) is_open)
+
+-- names that rise
+pub risen : {X : Type 0} (m : NameMap X) → IsStrictlySortedBy name_cmp (keys_of m) → IsRisingMap m
+unfolding IsRisingMap
+risen m rising = sorted_from_ordered name_cmp m rising
+
+-- the row of a locator that is there
+pub row_of_locator : (o : Own) (at : List ℕ) (l : Locator) → get o.part.locators at ≡ Some l → own_row o at ≡ l.row
+row_of_locator o at l is = ap (λ (found : Option Locator). (unwrap_or found no_locator).row) is
+
+-- A writing call through a locator keeps what stands beside the locator and its row.
+pub write_births : (o : Own) (c : Call) (at : List ℕ) → written_name c ≡ Some at → session_births (part_beside (Some (own_row o at)) (Some at) o.part) ≡ kept_births o c
+write_births o (call.Insert row) at' is = absurd cc
+write_births o (call.Delete row) at' is = absurd cc
+write_births o (call.Lock to row) at' is = absurd cc
+write_births o (call.Select to row) at' is = absurd cc
+write_births o (call.SelectAsOf to row n) at' is = absurd cc
+write_births o (call.Assign to from) at' is = absurd cc
+write_births o (call.Free at) at' is = absurd cc
+write_births o (call.Length at) at' is = absurd cc
+write_births o (call.Read at amount offset) at' is = absurd cc
+write_births o (call.Instr at pattern offset) at' is = absurd cc
+write_births o (call.Compare left right amount left_offset right_offset) at' is = absurd cc
+write_births o (call.Write at offset buffer) at' is = ap (λ name. option_map_or (λ at. session_births (part_beside (Some (own_row o at)) (Some at) o.part)) name []) (sym is)
+write_births o (call.WriteAppend at buffer) at' is = ap (λ name. option_map_or (λ at. session_births (part_beside (Some (own_row o at)) (Some at) o.part)) name []) (sym is)
+write_births o (call.Append at from) at' is = ap (λ name. option_map_or (λ at. session_births (part_beside (Some (own_row o at)) (Some at) o.part)) name []) (sym is)
+write_births o (call.Copy at from amount to_offset from_offset) at' is = ap (λ name. option_map_or (λ at. session_births (part_beside (Some (own_row o at)) (Some at) o.part)) name []) (sym is)
+write_births o (call.Erase at amount offset) at' is = ap (λ name. option_map_or (λ at. session_births (part_beside (Some (own_row o at)) (Some at) o.part)) name []) (sym is)
+write_births o (call.Trim at size) at' is = ap (λ name. option_map_or (λ at. session_births (part_beside (Some (own_row o at)) (Some at) o.part)) name []) (sym is)
+write_births o (call.FragInsert at offset buffer) at' is = ap (λ name. option_map_or (λ at. session_births (part_beside (Some (own_row o at)) (Some at) o.part)) name []) (sym is)
+write_births o (call.FragDelete at amount offset) at' is = ap (λ name. option_map_or (λ at. session_births (part_beside (Some (own_row o at)) (Some at) o.part)) name []) (sym is)
+write_births o (call.FragMove at amount from_offset to_offset) at' is = ap (λ name. option_map_or (λ at. session_births (part_beside (Some (own_row o at)) (Some at) o.part)) name []) (sym is)
+write_births o (call.FragReplace at old_amount offset buffer) at' is = ap (λ name. option_map_or (λ at. session_births (part_beside (Some (own_row o at)) (Some at) o.part)) name []) (sym is)
+write_births o (call.SetOptions at share) at' is = ap (λ name. option_map_or (λ at. session_births (part_beside (Some (own_row o at)) (Some at) o.part)) name []) (sym is)
+write_births o (call.Savepoint name) at' is = absurd cc
+write_births o (call.RollbackTo name) at' is = absurd cc
+write_births o call.Commit at' is = absurd cc
+write_births o call.Rollback at' is = absurd cc
+write_births o call.End at' is = absurd cc
+
+-- An event that is none of those with births beside is an End.
+pub end_births : (o : Own) (c : Call) → is_event c ≡ true → ((row : List ℕ) → c ≡ call.Insert row → ⊥) → ((row : List ℕ) → c ≡ call.Delete row → ⊥) → ((to row : List ℕ) → c ≡ call.Lock to row → ⊥)
+    → ((to row : List ℕ) → c ≡ call.Select to row → ⊥) → ((to row : List ℕ) (n : ℕ) → c ≡ call.SelectAsOf to row n → ⊥) → ((name : List ℕ) → c ≡ call.RollbackTo name → ⊥)
+    → (c ≡ call.Commit → ⊥) → (c ≡ call.Rollback → ⊥) → [] ≡ kept_births o c
+end_births o (call.Insert row) event hi hd hl hs ha hb hc hr = absurd (hi row refl)
+end_births o (call.Delete row) event hi hd hl hs ha hb hc hr = absurd (hd row refl)
+end_births o (call.Lock to row) event hi hd hl hs ha hb hc hr = absurd (hl to row refl)
+end_births o (call.Select to row) event hi hd hl hs ha hb hc hr = absurd (hs to row refl)
+end_births o (call.SelectAsOf to row n) event hi hd hl hs ha hb hc hr = absurd (ha to row n refl)
+end_births o (call.Assign to from) event hi hd hl hs ha hb hc hr = absurd cc
+end_births o (call.Free at) event hi hd hl hs ha hb hc hr = absurd cc
+end_births o (call.Length at) event hi hd hl hs ha hb hc hr = absurd cc
+end_births o (call.Read at amount offset) event hi hd hl hs ha hb hc hr = absurd cc
+end_births o (call.Instr at pattern offset) event hi hd hl hs ha hb hc hr = absurd cc
+end_births o (call.Compare left right amount left_offset right_offset) event hi hd hl hs ha hb hc hr = absurd cc
+end_births o (call.Write at offset buffer) event hi hd hl hs ha hb hc hr = absurd cc
+end_births o (call.WriteAppend at buffer) event hi hd hl hs ha hb hc hr = absurd cc
+end_births o (call.Append at from) event hi hd hl hs ha hb hc hr = absurd cc
+end_births o (call.Copy at from amount to_offset from_offset) event hi hd hl hs ha hb hc hr = absurd cc
+end_births o (call.Erase at amount offset) event hi hd hl hs ha hb hc hr = absurd cc
+end_births o (call.Trim at size) event hi hd hl hs ha hb hc hr = absurd cc
+end_births o (call.FragInsert at offset buffer) event hi hd hl hs ha hb hc hr = absurd cc
+end_births o (call.FragDelete at amount offset) event hi hd hl hs ha hb hc hr = absurd cc
+end_births o (call.FragMove at amount from_offset to_offset) event hi hd hl hs ha hb hc hr = absurd cc
+end_births o (call.FragReplace at old_amount offset buffer) event hi hd hl hs ha hb hc hr = absurd cc
+end_births o (call.SetOptions at share) event hi hd hl hs ha hb hc hr = absurd cc
+end_births o (call.Savepoint name) event hi hd hl hs ha hb hc hr = absurd cc
+end_births o (call.RollbackTo name) event hi hd hl hs ha hb hc hr = absurd (hb name refl)
+end_births o call.Commit event hi hd hl hs ha hb hc hr = absurd (hc refl)
+end_births o call.Rollback event hi hd hl hs ha hb hc hr = absurd (hr refl)
+end_births o call.End event hi hd hl hs ha hb hc hr = refl
