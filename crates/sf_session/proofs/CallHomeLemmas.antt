@@ -16,7 +16,9 @@ use Rattle.sf_laws.proofs.HalfLemmas.{stands_where}
 use Rattle.sf_laws.proofs.OwnLemmas.{goes_on, local_entry}
 use Rattle.sf_laws.proofs.OwnRunLemmas.{run-append, legal-append, legal-joined, shape_after, others_law, may_still}
 use Rattle.sf_session.specs.declared.need.Need.TheVariants as need
-use Rattle.sf_session.specs.Cores.{Phase, Unpromised, CoreView, new_core, need_of, started, ended_locally, collected, noted}
+use Rattle.sf_session.specs.declared.phase.Phase.{Phase}
+use Rattle.sf_session.specs.declared.phase.Phase.TheVariants.{Unpromised}
+use Rattle.sf_session.specs.Cores.{CoreView, new_core, need_of, started, ended_locally, collected, noted}
 use Rattle.sf_session.specs.AtHome.{IsPromised, IsAtHome, IsAtHomeAfter, with_pending, reply_after}
 use Rattle.sf_session.proofs.HomeLemmas.{behind_pending, after_more, local_more}
 use Rattle.sf_session.proofs.NeedLemmas.{local_need, idle_need, collect_need, unpromised_is, idle_is, collected_is}

@@ -3,3 +3,4 @@ pub mod HomeLemmas
 pub mod EventLemmas
 pub mod CallHomeLemmas
 pub mod PromiseHomeLemmas
+pub mod StandingLemmas

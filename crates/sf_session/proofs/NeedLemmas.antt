@@ -7,7 +7,9 @@ use Rattle.sf_types.specs.Table.Parts.{Promise}
 use Rattle.sf_types.specs.Halves.Own.{own_due, is_event}
 use Rattle.sf_session.specs.declared.need.Need.{Need}
 use Rattle.sf_session.specs.declared.need.Need.TheVariants as need
-use Rattle.sf_session.specs.Cores.{Phase, Unpromised, Promised, Collected, CoreView, need_of_call, need_of}
+use Rattle.sf_session.specs.declared.phase.Phase.{Phase}
+use Rattle.sf_session.specs.declared.phase.Phase.TheVariants.{Unpromised, Promised, Collected}
+use Rattle.sf_session.specs.Cores.{CoreView, need_of_call, need_of}
 use Rattle.sf_session.specs.AtHome.{IsPromised}
 
 -- a call without a promise: whether it is due, and whether it is an event

@@ -27,7 +27,8 @@ use Rattle.sf_laws.proofs.PromiseLemmas.{own_session}
 use Rattle.sf_laws.proofs.PublicationLemmas.{cuts_by_own, publication_by_half}
 use Rattle.sf_laws.proofs.VerdictLemmas.{granted_where, refused_where}
 use Rattle.sf_session.specs.declared.need.Need.TheVariants as need
-use Rattle.sf_session.specs.Cores.{Promised, CoreView, need_of, accepted, promised, not_promised, abandoned}
+use Rattle.sf_session.specs.declared.phase.Phase.TheVariants.{Promised}
+use Rattle.sf_session.specs.Cores.{CoreView, need_of, accepted, promised, not_promised, abandoned}
 use Rattle.sf_session.specs.AtHome.{IsPromised, IsAtHome, IsAtHomeAfter, with_pending, reply_after, verdict, publication_answer}
 use Rattle.sf_session.proofs.EventLemmas.{due_behind, promise_changed}
 use Rattle.sf_session.proofs.HomeLemmas.{IsBehindPending, behind_pending, IsHeld, home_after}

@@ -12,7 +12,9 @@ use Rattle.sf_types.specs.Halves.Own.{own_of, own_after, AreLocal}
 use Rattle.sf_types.specs.Halves.Asks.{Answer, half_of, half_answer, request_of, kept_births}
 use Rattle.sf_types.specs.Halves.Flushes.{Verdict, half_promise, half_publish, own_flush}
 use Rattle.sf_types.specs.Space.Cuts.{Cut, cuts}
-use Rattle.sf_session.specs.Cores.{Phase, Unpromised, Promised, Collected, CoreView}
+use Rattle.sf_session.specs.declared.phase.Phase.{Phase}
+use Rattle.sf_session.specs.declared.phase.Phase.TheVariants.{Unpromised, Promised, Collected}
+use Rattle.sf_session.specs.Cores.{CoreView}
 
 -- A promise of the table is that of the call that stands, with its blocks, and nothing is pending beside it. Without one the
 -- call that stands has no promise.

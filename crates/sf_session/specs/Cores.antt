@@ -1,5 +1,5 @@
 -- What contracts see of a session outside the store, and what it needs next (our own).
-use Rattle.std.specs.Prelude.{ℕ, ◌==◌, List, [], ◌∷◌, ◌++◌, Option, Some, None, if◌then◌else◌}
+use Rattle.std.specs.Prelude.{◌≡◌, ℕ, ◌==◌, ◌⊎◌, List, [], ◌∷◌, ◌++◌, Option, Some, None, if◌then◌else◌}
 use Rattle.std.specs.Option.{option_map_or}
 use Rattle.sf_types.specs.declared.call.Call.{Call}
 use Rattle.sf_types.specs.Table.Parts.{new_session}
@@ -7,12 +7,8 @@ use Rattle.sf_types.specs.Halves.Own.{Own, own_due, own_step, is_event}
 use Rattle.sf_types.specs.Halves.Asks.{Answer, after_answer}
 use Rattle.sf_session.specs.declared.need.Need.{Need}
 use Rattle.sf_session.specs.declared.need.Need.TheVariants as need
-
--- How far a due call has come: it has no promise yet, so many blocks were promised to it, or they were collected.
-pub data Phase : Type 0 where
-  Unpromised : Phase
-  Promised : (blocks : ℕ) → Phase
-  Collected : (blocks : ℕ) → Phase
+use Rattle.sf_session.specs.declared.phase.Phase.{Phase}
+use Rattle.sf_session.specs.declared.phase.Phase.TheVariants.{Unpromised, Promised, Collected}
 
 -- A core: its session's number, the threshold at which its store gathers, its own part after all local calls that it has
 -- ended, those of them that the store hasn't got yet, the call that stands, and how far that has come.
@@ -79,3 +75,7 @@ abandoned core = record core { standing = None; phase = Unpromised }
 -- A core whose pending calls the store has got.
 abbrev pub noted : CoreView → CoreView
 noted core = record core { pending = [] }
+
+-- A core whose standing call awaits the store's answer.
+abbrev pub Awaits : CoreView → Type 0
+Awaits core = (need_of core ≡ need.Event) ⊎ (need_of core ≡ need.Publish)

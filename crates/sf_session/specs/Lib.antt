@@ -1,2 +1,4 @@
-pub mod Cores
 pub mod AtHome
+pub mod Cores
+pub mod Flushing
+pub mod Inside

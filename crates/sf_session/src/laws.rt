@@ -11,6 +11,9 @@ ghost use Rattle.sf_types.specs.Orders.Histories.{IsLegalHistory, history_table,
 ghost use Rattle.sf_types.specs.Halves.Own.{own_call};
 ghost use Rattle.sf_types.specs.Halves.Asks.{after_answer};
 ghost use Rattle.sf_types.specs.Halves.Flushes.{Granted, NoSpace, refusal_of};
+ghost use Rattle.sf_versions.specs.declared.asks.Answer.{Answer};
+ghost use Rattle.sf_versions.specs.Asks.{IsAnswer};
+ghost use Rattle.sf_own_part.specs.Ends.{IsKnown, IsRefusing};
 ghost use Rattle.sf_session.specs.declared.need.Need.TheVariants as need;
 ghost use Rattle.sf_session.specs.Cores.{CoreView, new_core, need_of, started, ended_locally, accepted, promised, not_promised, collected, abandoned, noted};
 ghost use Rattle.sf_session.specs.AtHome.{IsAtHome, IsAtHomeAfter, with_pending, reply_after, event_answer, verdict, publication_answer};
@@ -116,4 +119,9 @@ pub fn noted_calls_leave_a_core_at_home()
     ensures law { (options : Options) (sessions : ℕ) (history : List Entry) (core : CoreView)
         → IsAtHomeAfter options sessions history core → need_of core ≡ need.Idle
         → IsAtHomeAfter options sessions (with_pending history core) (noted core) }
+{}
+
+/// An event of which the session knows the refusal is refused by the store's half, whatever that is.
+pub fn a_known_refusal_is_answered()
+    ensures law { (t : Table) (core : CoreView) (c : Call) (answer : Answer) → IsKnown core.own c → IsAnswer answer (event_answer t core c) → IsRefusing answer }
 {}

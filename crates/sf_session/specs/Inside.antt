@@ -1,0 +1,2 @@
+-- Words that serve the proofs of a session alone.
+pub mod Standings

@@ -1,0 +1,105 @@
+//! A stand-in for the store: it answers what a test tells it.
+
+use sf_chunk_map::Map;
+use sf_script_calls::{call_form, spelled_call};
+use sf_session::{Need, SessionCore};
+use sf_types::{Blob, Call, Fault, Mem, OutOfMemory, Reply, TryCopy};
+use sf_versions::{Answer, Ask, Part};
+use std::alloc::Global;
+
+/// What the store answers to an event of which the session knows no refusal.
+#[derive(Clone, Copy)]
+pub enum Told {
+    Done,
+    /// A value of these bytes, the first of `abcdefgh`.
+    Value(usize),
+    Committed(u64),
+    Ended,
+}
+
+// The call that a script spells so. A text that spells none counts as want of memory.
+fn call_of(alloc: Global, text: &[u8]) -> Mem<Call> {
+    match call_form(alloc, text) {
+        Ok(spelled) => spelled_call(alloc, spelled),
+        Err(_) => Err(OutOfMemory),
+    }
+}
+
+// The first bytes of a text of eight, as a value.
+fn value_of(alloc: Global, count: usize) -> Mem<Map> {
+    let text = b"abcdefgh";
+    if count > text.len() {
+        return Err(OutOfMemory);
+    }
+    Map::of_blob(alloc, Blob::new(alloc, &text[..count])?)
+}
+
+fn answer_of(alloc: Global, told: Told) -> Mem<Answer> {
+    match told {
+        Told::Done => Ok(Answer::Done),
+        Told::Value(count) => {
+            let map = value_of(alloc, count)?;
+            let twin = map.copy()?;
+            Ok(Answer::Value { map, twin })
+        }
+        Told::Committed(number) => Ok(Answer::Committed(number)),
+        Told::Ended => Ok(Answer::Ended),
+    }
+}
+
+// Ends the standing call by the store's answer. It counts as want of memory where no answer is awaited.
+fn end_by_answer(alloc: Global, core: &mut SessionCore, told: Told) -> Mem<Reply> {
+    let Need::Event = core.next() else {
+        return Err(OutOfMemory);
+    };
+    let Ask { part, .. } = core.ask()?;
+    let answer = match part {
+        Part::Known(fault) => Answer::Refused(fault),
+        _ => answer_of(alloc, told)?,
+    };
+    Ok(core.accept(answer))
+}
+
+/// Makes the call that a text spells.
+pub fn make(alloc: Global, core: &mut SessionCore, text: &[u8], told: Told) -> Mem<Reply> {
+    let Need::Idle = core.next() else {
+        return Err(OutOfMemory);
+    };
+    core.start(call_of(alloc, text)?)?;
+    match core.next() {
+        Need::Local => core.local(),
+        _ => end_by_answer(alloc, core, told),
+    }
+}
+
+// A fault's word in a transcript, of those that the tests meet.
+fn word_of(fault: Fault) -> &'static [u8] {
+    match fault {
+        Fault::UnknownLocator => b"unknown-locator",
+        Fault::TooManyLocators => b"too-many-locators",
+        Fault::Lost => b"lost",
+        Fault::ReadOnly => b"read-only",
+        Fault::SpansTransactions => b"spans-transactions",
+        Fault::RowNotLocked => b"row-not-locked",
+        Fault::NoSuchRow => b"no-such-row",
+        Fault::Duplicate => b"duplicate",
+        Fault::NoSavepoint => b"no-savepoint",
+        _ => b"another",
+    }
+}
+
+/// A reply as a transcript spells it: bytes as they are, a digit for a number, and no number of a refusal.
+pub fn spelled(alloc: Global, reply: Reply) -> Mem<Vec<u8>> {
+    match reply {
+        Reply::Done => Ok(Vec::from_slice(alloc, b"ok")?),
+        Reply::Number(number) => {
+            let digit = b'0' + (number % 10) as u8;
+            Ok(Vec::from_slice(alloc, &[digit])?)
+        }
+        Reply::Bytes(bytes) => Ok(Vec::from_slice(alloc, bytes.as_bytes())?),
+        Reply::Committed(_) => Ok(Vec::from_slice(alloc, b"commit")?),
+        Reply::Refused(fault) => Ok(Vec::from_slice(alloc, word_of(fault))?),
+        Reply::Ended => Ok(Vec::from_slice(alloc, b"end")?),
+        _ => Ok(Vec::new(alloc)),
+    }
+}
