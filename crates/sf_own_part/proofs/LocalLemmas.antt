@@ -1,19 +1,15 @@
 -- Calls that are due, by what is prepared for their end.
-use Rattle.std.proofs.Common.{◌≡◌, ℕ, Bool, true, false, List, [], Option, Some, None, refl, sym, ap, ◌∙◌}
+use Rattle.std.proofs.Common.{◌≡◌, ℕ, Bool, false, List, Option, Some, None, refl, ap}
 use Rattle.std.specs.Prelude.{nat_le}
 use Rattle.std.specs.Option.{option_map_or}
 use Rattle.sf_types.specs.declared.call.Call.{Call}
 use Rattle.sf_types.specs.declared.call.Call.TheVariants as call
-use Rattle.sf_types.specs.declared.reply.Reply.{Reply}
-use Rattle.sf_types.specs.declared.reply.Reply.TheVariants as reply
-use Rattle.sf_types.specs.Table.Parts.{Session}
-use Rattle.sf_types.specs.Values.Marks.{Value, fresh_count}
+use Rattle.sf_types.specs.Values.Marks.{fresh_count}
 use Rattle.sf_types.specs.Calls.WritingCalls.{written_name}
-use Rattle.sf_types.specs.Halves.Own.{Own, is_event, own_call, own_write_call, own_due, own_write_due}
+use Rattle.sf_types.specs.Halves.Own.{Own, own_due, own_write_due}
 use Rattle.sf_own_part.specs.declared.answers.Prepared.{Prepared}
 use Rattle.sf_own_part.specs.declared.answers.Prepared.TheVariants as prepared
 use Rattle.sf_own_part.specs.Ends.{IsPrepared, IsPreparedWrite}
-use Rattle.sf_own_part.specs.OwnWrites.{write_refusal, written}
 
 -- Whether what is prepared is a result with as many fresh bytes.
 abbrev pub is_full : ℕ → Prepared → Bool

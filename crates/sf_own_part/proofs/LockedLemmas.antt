@@ -1,11 +1,12 @@
 -- The names of rows, one after the other, and savepoints up to one.
 use Rattle.std.proofs.Common.{◌≡◌, ℕ, zero, suc, ◌+◌, ◌≤◌, arith, append_assoc, append-nil, drop, Bool, true, false, cond, not, length, List, [], ◌∷◌, ◌++◌, map, take, Option, Some, None, refl, sym, ap, ◌∙◌, add-one}
-use Rattle.std.specs.Prelude.{slice_get, slice_index_or, nat_lt, find, filter, flat_map}
+use Rattle.std.specs.Prelude.{slice_get, slice_index_or, nat_lt, find, filter, flat_map, is_some, ◌||◌}
 use Rattle.std.specs.Option.{option_map_or}
-use Rattle.std.proofs.lemmas.List.{drop_all, take_all}
-use Rattle.std.specs.List.{list_any, position, position_or_len, prefix_len}
+use Rattle.std.proofs.lemmas.List.{drop_all, take_all, map-append}
+use Rattle.std.specs.List.{list_any, position, position_or_len}
 use Rattle.std.proofs.lemmas.List.Folds.{find_at}
-use Rattle.sf_types.specs.Inside.NameMaps.{is_same_name}
+use Rattle.std.specs.Map.{keys_of}
+use Rattle.sf_types.specs.Inside.NameMaps.{NameMap, is_same_name, get, has}
 use Rattle.sf_types.proofs.NameMapLemmas.{same_name}
 use Rattle.sf_types.specs.Values.Marks.{Value}
 use Rattle.sf_types.specs.Table.Parts.{Rows, Savepoint, Session}
@@ -142,3 +143,15 @@ unlocked_rows named (row ∷ rows) =
       | true ↦ unlocked_rows named rows
       | false ↦ ap (λ (names : List (List ℕ)). row.0 ∷ names) (unlocked_rows named rows)
     ]
+
+-- A name is among those of a map where the map has something at it.
+pub named_is_there : {X : Type 0} (m : NameMap X) (row : List ℕ) → has m row ≡ list_any (is_same_name row) (keys_of m)
+named_is_there [] row = refl
+named_is_there (e ∷ m) row =
+    elim (is_same_name row e.0) as (λ b. is_some (cond b (Some e.1) (get m row)) ≡ (b || list_any (is_same_name row) (keys_of m))) [
+      | true ↦ refl
+      | false ↦ named_is_there m row
+    ]
+
+pub keys-push : {X Y : Type 0} (xs : List (X × Y)) (e : X × Y) → keys_of (xs ++ e ∷ []) ≡ keys_of xs ++ e.0 ∷ []
+keys-push {X = X} {Y = Y} xs e = map-append (λ (p : X × Y). p.0) xs (e ∷ [])

@@ -1,6 +1,6 @@
 -- The births of a part, kind by kind, and those that a session holds after a call.
-use Rattle.std.proofs.Common.{◌≡◌, ℕ, Bool, true, false, cond, List, [], ◌∷◌, ◌++◌, map, Option, Some, None, refl, sym, ap, subst, ◌∙◌, append_assoc, append-nil}
-use Rattle.std.specs.Prelude.{Contains, flat_map, unwrap_or, IfSome}
+use Rattle.std.proofs.Common.{◌≡◌, ℕ, true, false, cond, List, [], ◌∷◌, ◌++◌, map, Option, Some, None, refl, sym, ap, subst, ◌∙◌, append-nil}
+use Rattle.std.specs.Prelude.{Contains, flat_map, unwrap_or}
 use Rattle.std.specs.List.{AllByRecursion as Each}
 use Rattle.std.specs.Option.{option_map_or}
 use Rattle.std.proofs.lemmas.Grind.{flat_map-append}
@@ -18,15 +18,15 @@ use Rattle.sf_types.specs.Table.Parts.{Locator, Rows, Savepoint, Session}
 use Rattle.sf_types.specs.Table.Sessions.{with_transaction}
 use Rattle.sf_types.specs.Calls.RowCalls.{after_insert, after_delete, after_lock, after_select}
 use Rattle.sf_types.specs.Calls.Savepoints.{after_rollback_to, with_losses, is_since, savepoints_up_to}
-use Rattle.sf_types.specs.Calls.TransactionEnds.{after_commit, after_rollback, clean_locators}
+use Rattle.sf_types.specs.Calls.TransactionEnds.{after_commit, clean_locators}
 use Rattle.sf_types.specs.Calls.LocatorCalls.{no_locator}
 use Rattle.sf_types.specs.Calls.WritingCalls.{written_name}
 use Rattle.sf_types.specs.Space.Reach.{values_in, session_values, session_births}
 use Rattle.sf_types.specs.Halves.Own.{Own, own_row, is_event}
 use Rattle.sf_types.specs.Halves.Asks.{kept_births}
-use Rattle.sf_laws.proofs.EachLemmas.{each_contained, each_itself, each-append, each_left, each_right}
+use Rattle.sf_laws.proofs.EachLemmas.{each_itself, each-append, each_left}
 use Rattle.sf_laws.proofs.HeldLemmas.{OfOption}
-use Rattle.sf_laws.proofs.ReachLemmas.{OfBirth, each-rising, each_from_rising, each-births_in, each_from_births_in, each-session_births, each_from_session_births}
+use Rattle.sf_laws.proofs.ReachLemmas.{OfBirth, each-rising, each_from_rising, each-births_in, each-session_births, each_from_session_births}
 use Rattle.sf_laws.proofs.SessionBirthLemmas.{same_rising, each_put_from, each_of_put, births_put}
 use Rattle.sf_laws.proofs.SumLemmas.{rising_rises}
 use Rattle.sf_session_values.specs.ValueBirths.{rows_beside, locators_beside, births_of_rows, births_of_locators}

@@ -1,7 +1,6 @@
 -- The refusals of a writing call, one part of them after the other, and what it writes where none holds.
-use Rattle.std.proofs.Common.{◌≡◌, ℕ, Bool, true, false, cond, List, [], ◌∷◌, ◌++◌, map, Option, Some, None, Result, Ok, Err, refl, sym, ap, ◌∙◌}
+use Rattle.std.proofs.Common.{◌≡◌, ℕ, Bool, true, false, cond, List, [], ◌∷◌, ◌++◌, Option, Some, None, Ok, Err, refl, sym, ap, ◌∙◌}
 use Rattle.std.specs.Prelude.{not, is_none, is_some, unwrap_or}
-use Rattle.std.specs.Option.{option_map_or}
 use Rattle.sf_types.specs.declared.call.Call.{Call}
 use Rattle.sf_types.specs.declared.reply.Fault.{Fault}
 use Rattle.sf_types.specs.declared.reply.Fault.TheVariants as fault
@@ -12,7 +11,7 @@ use Rattle.sf_types.specs.Table.Sessions.{row_value}
 use Rattle.sf_types.specs.Calls.Refusals.{first_refusal}
 use Rattle.sf_types.specs.Calls.Arguments.{argument_refusals}
 use Rattle.sf_types.specs.Calls.LocatorCalls.{locator, locator_named, no_locator, locator_refusals, unknown_refusals, lost_refusals}
-use Rattle.sf_types.specs.Calls.WritingCalls.{spans_transactions, writing_refusals, writing_refusal, names_in, source_value, old_value, result_value}
+use Rattle.sf_types.specs.Calls.WritingCalls.{spans_transactions, writing_refusals, writing_refusal, names_in, source_value, old_value}
 use Rattle.sf_types.specs.Halves.Own.{Own, has_lock, held_value, own_row}
 use Rattle.sf_locators.specs.LocatorWrites.{write_refusals}
 use Rattle.sf_fragment_ops.specs.EditCalls.{answered, edit_refusal}

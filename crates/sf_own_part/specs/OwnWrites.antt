@@ -1,6 +1,5 @@
 -- A writing call by a session's own part (our own).
-use Rattle.std.specs.Prelude.{ℕ, List, ◌++◌, Option, Some, None}
-use Rattle.std.specs.Option.{option_map_or}
+use Rattle.std.specs.Prelude.{ℕ, List, Option, Some, None}
 use Rattle.sf_types.specs.declared.call.Call.{Call}
 use Rattle.sf_types.specs.declared.call.Call.TheVariants as call
 use Rattle.sf_types.specs.declared.reply.Fault.{Fault}
@@ -8,7 +7,7 @@ use Rattle.sf_types.specs.declared.reply.Reply.{Reply}
 use Rattle.sf_types.specs.declared.reply.Reply.TheVariants as reply
 use Rattle.sf_types.specs.Values.Edits.{erased_count}
 use Rattle.sf_types.specs.Values.Marks.{Value}
-use Rattle.sf_types.specs.Calls.WritingCalls.{written_name, writing_refusal, result_of, old_value}
+use Rattle.sf_types.specs.Calls.WritingCalls.{writing_refusal, result_of, old_value}
 use Rattle.sf_types.specs.Halves.Own.{Own, has_lock, held_value, own_row}
 use Rattle.sf_own_part.specs.declared.writes.Written.{Written}
 

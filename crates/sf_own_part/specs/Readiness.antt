@@ -1,5 +1,5 @@
 -- An own part on which a call can end without memory (our own).
-use Rattle.std.specs.Prelude.{ℕ, ◌≤◌, ◌<◌, ◌^◌, ◌-◌}
+use Rattle.std.specs.Prelude.{◌≤◌, ◌<◌, ◌^◌, ◌-◌}
 use Rattle.sf_types.specs.Rooms.{Roomy}
 use Rattle.sf_types.specs.Halves.Own.{Own}
 

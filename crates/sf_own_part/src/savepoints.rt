@@ -2,6 +2,7 @@
 ghost use Rattle.std.specs.Prelude.{◌≡◌, ◌+◌, ◌++◌, ◌∷◌, [], ◌&&◌, not, nat_le, length, map, filter, take, is_none, unwrap_or, Some, IfOk, OnOk, OnErr};
 ghost use Rattle.std.specs.Option.{option_copied};
 ghost use Rattle.std.specs.List.{list_any, position};
+ghost use Rattle.std.specs.Map.{keys_of};
 ghost use Rattle.sf_types.specs.declared.limits.TheConstants.{SESSION_SAVEPOINTS as SESSION_SAVEPOINTS_MOST};
 ghost use Rattle.sf_types.specs.Inside.NameMaps.{is_same_name};
 ghost use Rattle.sf_types.specs.Table.Parts.{Savepoint as TableSavepoint};
@@ -12,7 +13,8 @@ use crate::own_part::OwnPart;
 use crate::savepoint::Savepoint;
 use sf_room_map::KeyTest;
 use sf_session_values::RestoredRows;
-use sf_types::{Fault, List, LocName, Mem, Name, Reply, SESSION_SAVEPOINTS, TryCopy};
+use sf_sorted_map::SortedMap;
+use sf_types::{Fault, LocName, Mem, Name, Reply, SESSION_SAVEPOINTS, TryCopy};
 use sf_versions::ChangeList;
 
 // A test of rows: whether a savepoint names them.
@@ -71,25 +73,28 @@ impl OwnPart {
     }
 
     // Puts the name of the k-th locked row behind those before it.
-    fn copy_locked(&self, k: usize, names: &mut List<Name>) -> Mem<()>
-        requires { names.old ≡ take k (map (λ e. e.0) self.now.held.rows) }
-        ensures { OnOk result (names.new ≡ take (k + 1) (map (λ e. e.0) self.now.held.rows)) }
+    fn copy_locked(&self, k: usize, names: &mut Vec<(Name, ())>) -> Mem<()>
+        requires { keys_of names.old.items ≡ take k (keys_of self.now.held.rows) }
+        ensures { OnOk result (keys_of names.new.items ≡ take (k + 1) (keys_of self.now.held.rows)) }
     {
         match self.rows.entry(k) {
-            Some((name, _)) => names.push(name.copy()?),
+            Some((name, _)) => {
+                names.push((name.copy()?, ()))?;
+                Ok(())
+            }
             None => Ok(()),
         }
     }
 
-    /// The names of the locked rows, in byte order.
-    pub fn locked(&self) -> Mem<List<Name>>
-        ensures { IfOk result (λ names. names ≡ map (λ e. e.0) self.now.held.rows) }
+    // The names of the locked rows.
+    fn locked(&self) -> Mem<SortedMap<Name, ()>>
+        ensures { IfOk result (λ names. keys_of names.held ≡ keys_of self.now.held.rows) }
     {
-        let mut names = List::new(self.alloc);
+        let mut names = Vec::with_capacity(self.alloc, self.rows.len())?;
         for k in 0..self.rows.len() {
             self.copy_locked(k, &mut names)?;
         }
-        Ok(names)
+        Ok(SortedMap::from_entries(names))
     }
 
     /// Savepoint.

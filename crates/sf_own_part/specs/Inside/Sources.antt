@@ -1,5 +1,5 @@
 -- Sources of writing calls, and what a writing call makes of a value (our own).
-use Rattle.std.specs.Prelude.{ℕ, Bool, true, List}
+use Rattle.std.specs.Prelude.{Bool, true}
 use Rattle.std.specs.Option.{option_map_or}
 use Rattle.sf_types.specs.declared.call.Call.{Call}
 use Rattle.sf_types.specs.Inside.NameMaps.{has}

@@ -1,5 +1,5 @@
 -- The rows that a rollback to a savepoint unlocks, entry by entry (our own).
-use Rattle.std.specs.Prelude.{ℕ, Bool, not, List, [], ◌∷◌, Option, if◌then◌else◌}
+use Rattle.std.specs.Prelude.{ℕ, List, [], ◌∷◌, Option, if◌then◌else◌}
 use Rattle.std.specs.List.{list_any}
 use Rattle.sf_types.specs.Inside.NameMaps.{is_same_name}
 use Rattle.sf_types.specs.Values.Marks.{Value}

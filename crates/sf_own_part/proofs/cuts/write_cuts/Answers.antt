@@ -1,4 +1,4 @@
-use Rattle.std.proofs.Common.{◌≡◌, ◌++◌, length, ap, ◌∙◌}
+use Rattle.std.proofs.Common.{◌++◌, length, ap, ◌∙◌}
 use Rattle.std.specs.Prelude.{replicate}
 use Rattle.sf_types.specs.Space.Cuts.{contents_of_value}
 use Rattle.sf_versions.specs.Asks.{cuts_with}

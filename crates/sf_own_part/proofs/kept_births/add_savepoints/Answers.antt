@@ -1,4 +1,4 @@
-use Rattle.std.proofs.Common.{◌++◌, ◌∙◌, ap, sym, arith}
+use Rattle.std.proofs.Common.{arith}
 use Rattle.sf_session_values.specs.ValueBirths.{births_of_rows}
 use Rattle.sf_session_values.proofs.EntryBirthLemmas.{births_added, all_births_added}
 use Rattle.sf_own_part.proofs.kept_births.add_savepoints.Goals as goal

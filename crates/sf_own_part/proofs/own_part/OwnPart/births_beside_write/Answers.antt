@@ -1,5 +1,5 @@
-use Rattle.std.proofs.Common.{◌≡◌, ◌++◌, Option, Some, None, IfOk, sym, ap, subst, ◌∙◌}
-use Rattle.std.specs.Option.{option_copied, option_map}
+use Rattle.std.proofs.Common.{◌≡◌, Some, IfOk, sym, ap, subst, ◌∙◌}
+use Rattle.std.specs.Option.{option_copied}
 use Rattle.sf_types.specs.Inside.NameMaps.{get}
 use Rattle.sf_types.specs.Space.Reach.{session_births}
 use Rattle.sf_own_part.specs.Inside.PartBirths.{part_beside}

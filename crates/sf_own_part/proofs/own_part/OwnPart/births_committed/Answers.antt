@@ -1,7 +1,5 @@
-use Rattle.std.proofs.Common.{◌≡◌, ◌++◌, Option, Some, None, IfOk, sym, ap, subst, ◌∙◌}
-use Rattle.sf_types.specs.Space.Reach.{session_births}
-use Rattle.sf_own_part.specs.Inside.PartBirths.{part_after_commit}
-use Rattle.sf_own_part.proofs.PartBirthLemmas.{open_commit_births, other_commit_births}
+use Rattle.std.proofs.Common.{◌≡◌, IfOk, sym, ap, subst, ◌∙◌}
+use Rattle.sf_own_part.proofs.PartBirthLemmas.{open_commit_births}
 use Rattle.sf_own_part.proofs.own_part.OwnPart.births_committed.Goals as goal
 
 pub returns-then-self : goal.returns-then-self

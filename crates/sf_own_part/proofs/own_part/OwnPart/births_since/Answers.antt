@@ -1,4 +1,5 @@
-use Rattle.std.proofs.Common.{◌≡◌, ◌++◌, Option, Some, None, IfOk, sym, ap, subst, ◌∙◌}
+use Rattle.std.proofs.Common.{◌≡◌, ◌++◌, None, IfOk, ap, subst, ◌∙◌}
+use Rattle.std.specs.Map.{keys_of}
 use Rattle.sf_types.specs.Table.Parts.{Savepoint, Session}
 use Rattle.sf_types.specs.Calls.Savepoints.{after_rollback_to, savepoints_up_to}
 use Rattle.sf_types.specs.Space.Reach.{session_births}
@@ -20,7 +21,7 @@ returns c =
       has_ended = i.ended;
     } in
     let s = c.savepoint.inside in
-    let x : Savepoint = record { name = s.name; epoch = s.epoch; working = s.working; locked = s.locked } in
+    let x : Savepoint = record { name = s.name; epoch = s.epoch; working = s.working; locked = keys_of s.locked.held } in
     let left = c.up_to-left.ensures ∙ ap (λ n. savepoints_up_to n c.deref.result.now) c.as_bytes.ensures.text ∙ ap (savepoints_up_to s.name) c.deref.ensures.value in
     let savepoints = c.in_ok-add_savepoints.ensures ∙ ap (λ xs. c.add_kept_births.new.into ++ births_of_savepoints xs) left in
     let births = rolled_together p x _ _ _ _ c.new-births.ensures c.in_ok-add_change_births.ensures c.in_ok-add_kept_births.ensures savepoints in

@@ -1,4 +1,4 @@
-use Rattle.std.proofs.Common.{◌≡◌, ◌++◌, [], Option, Some, None, IfOk, sym, ap, subst, ◌∙◌, append-nil}
+use Rattle.std.proofs.Common.{◌≡◌, ◌++◌, [], None, IfOk, sym, ap, subst, ◌∙◌, append-nil}
 use Rattle.sf_types.specs.Table.Parts.{Session}
 use Rattle.sf_types.specs.Calls.Savepoints.{after_rollback_to, savepoints_up_to, no_savepoint}
 use Rattle.sf_types.specs.Space.Reach.{session_births}

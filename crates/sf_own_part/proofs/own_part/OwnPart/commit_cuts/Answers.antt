@@ -1,6 +1,5 @@
-use Rattle.std.proofs.Common.{◌≡◌, ◌≤◌, length, ap, ◌∙◌, arith}
+use Rattle.std.proofs.Common.{◌≤◌, length, ap, ◌∙◌, arith}
 use Rattle.std.specs.Prelude.{flat_map}
-use Rattle.sf_types.specs.Space.Cuts.{cuts}
 use Rattle.sf_versions.specs.Asks.{cuts_with}
 use Rattle.sf_own_part.specs.Inside.RowCuts.{row_contents, row_choices}
 use Rattle.sf_own_part.proofs.CutLemmas.{rows_cuts}

@@ -1,8 +1,7 @@
-use Rattle.std.proofs.Common.{◌≡◌, sym, ap, subst, ◌∙◌}
+use Rattle.std.proofs.Common.{sym, ap, subst, ◌∙◌}
 use Rattle.sf_types.specs.declared.call.Call.TheVariants as call
 use Rattle.sf_types.specs.Halves.Asks.{after_done}
 use Rattle.sf_own_part.specs.Ends.{IsPrepared, IsKnown}
-use Rattle.sf_own_part.specs.declared.answers.Prepared.TheVariants as prepared
 use Rattle.sf_own_part.proofs.CallLemmas.{lock_room, select_room, restored_end, other_done, done_reply}
 use Rattle.sf_own_part.proofs.own_part.OwnPart.end_done.Goals as goal
 

@@ -1,7 +1,5 @@
-use Rattle.std.proofs.Common.{◌≡◌, sym, ap, subst, ◌∙◌}
-use Rattle.sf_types.specs.Halves.Asks.{after_value}
+use Rattle.std.proofs.Common.{ap, subst, ◌∙◌}
 use Rattle.sf_own_part.specs.Ends.{IsKnown}
-use Rattle.sf_own_part.specs.Inside.Sources.{after_written}
 use Rattle.sf_own_part.proofs.CallLemmas.{lock_room, select_room, select_as_of_room, given_written}
 use Rattle.sf_own_part.proofs.own_part.OwnPart.end_given.Goals as goal
 

@@ -1,4 +1,4 @@
-use Rattle.std.proofs.Common.{◌≡◌, Option, Some, None, Ok, Err, sym, ap, subst, ◌∙◌}
+use Rattle.std.proofs.Common.{sym, ap, subst, ◌∙◌}
 use Rattle.std.specs.Option.{option_copied}
 use Rattle.sf_own_part.specs.declared.answers.Prepared.TheVariants as prepared
 use Rattle.sf_own_part.specs.Ends.{IsPreparedWrite}

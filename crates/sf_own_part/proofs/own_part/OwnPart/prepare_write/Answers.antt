@@ -1,9 +1,9 @@
-use Rattle.std.proofs.Common.{◌≡◌, List, [], ◌∷◌, Option, Some, None, Result, Ok, Err, sym, ap, ◌∙◌}
-use Rattle.std.specs.Option.{option_copied, option_map_or}
+use Rattle.std.proofs.Common.{◌≡◌, Some, Ok, sym, ap, ◌∙◌}
+use Rattle.std.specs.Option.{option_copied}
 use Rattle.sf_types.specs.Inside.NameMaps.{get}
 use Rattle.sf_types.specs.Calls.WritingCalls.{source_value}
 use Rattle.sf_fragment_ops.specs.EditCalls.{answered, edit_refusal}
-use Rattle.sf_own_part.specs.OwnWrites.{write_refusal, written}
+use Rattle.sf_own_part.specs.OwnWrites.{written}
 use Rattle.sf_own_part.proofs.WriteLemmas.{refused_before, refused_by_arguments, written_is, same_written, answered_ok, answered_err}
 use Rattle.sf_own_part.specs.Inside.Sources.{written_value}
 use Rattle.sf_own_part.proofs.own_part.OwnPart.prepare_write.Goals as goal

@@ -1,10 +1,10 @@
-use Rattle.std.proofs.Common.{◌≡◌, ℕ, Bool, List, Option, Some, None, sym, ap, subst, ◌∙◌}
-use Rattle.std.specs.Prelude.{find, filter, slice_get}
+use Rattle.std.proofs.Common.{◌≡◌, Bool, Some, None, sym, ap, ◌∙◌}
+use Rattle.std.specs.Prelude.{find, filter}
 use Rattle.std.specs.List.{list_any, position}
 use Rattle.sf_types.specs.Inside.NameMaps.{is_same_name}
 use Rattle.sf_types.specs.Table.Parts.{Savepoint, Session}
 use Rattle.sf_types.specs.Halves.Own.{Own}
-use Rattle.sf_types.specs.Calls.Savepoints.{savepoint_named, after_rollback_to}
+use Rattle.sf_types.specs.Calls.Savepoints.{after_rollback_to}
 use Rattle.sf_own_part.proofs.LockedLemmas.{not_placed, placed, indexed, up_to_placed, rolled_back_to}
 use Rattle.sf_own_part.proofs.own_part.OwnPart.roll_back_to.Goals as goal
 

@@ -1,4 +1,4 @@
-use Rattle.std.proofs.Common.{◌≡◌, ◌≤◌, length, sym, ap, ◌∙◌, arith}
+use Rattle.std.proofs.Common.{◌≤◌, length, ap, ◌∙◌, arith}
 use Rattle.std.specs.Prelude.{flat_map}
 use Rattle.sf_own_part.specs.Inside.Unlocking.{unlocked}
 use Rattle.sf_own_part.proofs.LockedLemmas.{part_added, all_added, unlocked_rows}

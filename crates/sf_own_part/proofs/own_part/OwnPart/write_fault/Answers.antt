@@ -1,6 +1,5 @@
-use Rattle.std.proofs.Common.{◌≡◌, List, [], ◌∷◌, Option, Some, None, Result, Ok, Err, sym, ap, ◌∙◌}
-use Rattle.std.specs.Option.{option_copied, option_map_or}
-use Rattle.sf_types.specs.Inside.NameMaps.{get}
+use Rattle.std.proofs.Common.{[], ◌∷◌, sym, ap, ◌∙◌}
+use Rattle.std.specs.Option.{option_map_or}
 use Rattle.sf_types.specs.Calls.Refusals.{first_refusal}
 use Rattle.sf_types.specs.Calls.LocatorCalls.{locator_refusals}
 use Rattle.sf_types.specs.Halves.Own.{held_value}

@@ -1,12 +1,10 @@
-use Rattle.std.proofs.Common.{rules, tests, ◌∙◌, sym, ap}
+use Rattle.std.proofs.Common.{rules, ◌≡◌, ap, ◌∙◌}
 use Rattle.std.specs.List.{list_any}
-use Rattle.std.proofs.lemmas.Iterator.{YieldsList-from_slice}
-use Rattle.std.proofs.lemmas.Iterator.Search.{any_from_yields_List}
-use Rattle.std.specs.Cmp.Lexicographic.{texts_ties}
-use Rattle.sf_types.specs.Inside.NameMaps.{is_same_name}
+use Rattle.sf_types.specs.Inside.NameMaps.{is_same_name, has}
+use Rattle.sf_own_part.proofs.LockedLemmas.{named_is_there}
 use Rattle.sf_own_part.proofs.savepoint.Savepoint.names_row.Goals as goal
 
 pub returns : goal.returns
-returns c = any_from_yields_List (is_same_name c.args.row.now) _ _ c.any.result c.any.ensures.ran (YieldsList-from_slice _ c.iter.ensures.rest) (λ x b q k. search (rules, tests, texts_ties c.args.row.now x.now))
-    ∙ ap (list_any (is_same_name c.args.row.now)) c.as_slice.ensures
-    ∙ ap (λ s. list_any (is_same_name c.args.row.now) s.locked) c.self.view_is
+returns c =
+    let there : c.is_some.result ≡ has c.self.inside.locked.held c.args.row.now = search rules in
+    there ∙ named_is_there c.self.inside.locked.held c.args.row.now ∙ ap (λ s. list_any (is_same_name c.args.row.now) s.locked) c.self.view_is
