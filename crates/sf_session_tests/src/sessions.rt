@@ -1,134 +1,127 @@
 use crate::stand_in::{Told, make, spelled};
+use memchr::memchr;
 use sf_session::SessionCore;
-use sf_types::Mem;
+use sf_types::{Mem, OutOfMemory};
 use std::alloc::Global;
 use std::test::*;
 
-// A call, what the store answers where it is asked, and the reply.
-type Row = (&'static [u8], Told, &'static [u8]);
-
-// Makes calls one after the other, and tells the first that is replied otherwise.
-fn first_other(alloc: Global, core: &mut SessionCore, rows: &[Row]) -> Mem<Option<usize>> {
-    for k in 0..rows.len() {
-        let (text, told, wanted) = rows[k];
-        let reply = spelled(alloc, make(alloc, core, text, told)?)?;
-        if *reply.as_slice() != *wanted {
-            return Ok(Some(k));
-        }
+// The text before a byte, and the text behind it. All and nothing where the byte isn't there.
+fn cut_at(text: &[u8], byte: u8) -> (&[u8], &[u8]) {
+    match memchr(byte, text) {
+        Some(at) => (&text[..at], &text[at + 1..]),
+        None => (text, &[]),
     }
-    Ok(None)
+}
+
+// What the store is told by a letter: a digit for a value of so many bytes, `c` for a commit, and any other for a call that is done.
+fn told_by(letter: &[u8]) -> Told {
+    match letter.first() {
+        Some(b'c') => Told::Committed(1),
+        Some(digit) => {
+            if digit.is_ascii_digit() {
+                Told::Value(usize::from(*digit - b'0'))
+            } else {
+                Told::Done
+            }
+        }
+        None => Told::Done,
+    }
+}
+
+// Makes the call of a line `TOLD|REPLY|CALL`, and tells whether it is replied so.
+fn replies_so(alloc: Global, core: &mut SessionCore, line: &[u8]) -> Mem<bool> {
+    let (letter, rest) = cut_at(line, b'|');
+    let (reply, call) = cut_at(rest, b'|');
+    let told = spelled(alloc, make(alloc, core, call, told_by(letter))?)?;
+    Ok(told.as_slice() == reply)
+}
+
+// Makes the calls of lines, a hundred at most and each ended by `;`, and answers their number. Want of memory where one isn't
+// replied so.
+fn play(alloc: Global, core: &mut SessionCore, lines: &[u8]) -> Mem<usize> {
+    let mut rest = lines;
+    for count in 0..101 {
+        if rest.is_empty() {
+            return Ok(count);
+        }
+        let (line, behind) = cut_at(rest, b';');
+        if !replies_so(alloc, core, line)? {
+            return Err(OutOfMemory);
+        }
+        rest = behind;
+    }
+    Err(OutOfMemory)
+}
+
+// Plays lines on a new session.
+fn play_anew(alloc: Global, lines: &[u8]) -> Mem<usize> {
+    let mut core = SessionCore::new(alloc, 1, 512);
+    play(alloc, &mut core, lines)
 }
 
 #[test]
 fn assigned_locators(rt: HostRuntime) -> Result<(), Fail> {
-    let alloc = rt.alloc();
-    let mut core = SessionCore::new(alloc, 1, 512);
-    let rows: [Row; 10] = [
-        (b"insert a", Told::Done, b"ok"),
-        (b"lock p a", Told::Done, b"ok"),
-        (b"writeappend p \"ab\"", Told::Done, b"ok"),
-        (b"assign q p", Told::Done, b"ok"),
-        (b"write p 1 \"X\"", Told::Done, b"ok"),
-        (b"read q 2 1", Told::Done, b"ab"),
-        (b"read p 2 1", Told::Done, b"Xb"),
-        (b"write q 2 \"Y\"", Told::Done, b"ok"),
-        (b"read q 2 1", Told::Done, b"XY"),
-        (b"read p 2 1", Told::Done, b"Xb"),
-    ];
-    assert_eq!(rt; first_other(alloc, &mut core, &rows)?, None);
+    let lines =
+        b"d|ok|insert a;d|ok|lock p a;d|ok|writeappend p \"ab\";d|ok|assign q p;d|ok|write p 1 \"X\";\
+        d|ab|read q 2 1;d|Xb|read p 2 1;d|ok|write q 2 \"Y\";d|XY|read q 2 1;d|Xb|read p 2 1;";
+    assert_eq!(rt; play_anew(rt.alloc(), lines)?, 10);
     Ok(())
 }
 
 #[test]
 fn locators_across_transactions(rt: HostRuntime) -> Result<(), Fail> {
-    let alloc = rt.alloc();
-    let mut core = SessionCore::new(alloc, 1, 512);
-    let rows: [Row; 10] = [
-        (b"insert a", Told::Done, b"ok"),
-        (b"commit", Told::Committed(1), b"commit"),
-        (b"select q a", Told::Value(0), b"ok"),
-        (b"lock p a", Told::Value(0), b"ok"),
-        (b"commit", Told::Committed(2), b"commit"),
-        (b"writeappend p \"x\"", Told::Done, b"spans-transactions"),
-        (b"writeappend q \"x\"", Told::Done, b"row-not-locked"),
-        (b"lock r a", Told::Value(0), b"ok"),
-        (b"writeappend q \"x\"", Told::Done, b"ok"),
-        (b"length q", Told::Done, b"1"),
-    ];
-    assert_eq!(rt; first_other(alloc, &mut core, &rows)?, None);
+    let lines = b"d|ok|insert a;c|commit|commit;0|ok|select q a;0|ok|lock p a;c|commit|commit;\
+        d|spans-transactions|writeappend p \"x\";d|row-not-locked|writeappend q \"x\";0|ok|lock r a;\
+        d|ok|writeappend q \"x\";d|1|length q;";
+    assert_eq!(rt; play_anew(rt.alloc(), lines)?, 10);
     Ok(())
 }
 
 #[test]
 fn refusals_of_the_session(rt: HostRuntime) -> Result<(), Fail> {
-    let alloc = rt.alloc();
-    let mut core = SessionCore::new(alloc, 1, 512);
-    let rows: [Row; 10] = [
-        (b"insert a", Told::Done, b"ok"),
-        (b"commit", Told::Committed(1), b"commit"),
-        (b"asof r a 1", Told::Value(0), b"ok"),
-        (b"write r 1 \"x\"", Told::Done, b"read-only"),
-        (b"free y", Told::Done, b"unknown-locator"),
-        (b"lock p a", Told::Value(0), b"ok"),
-        (b"delete a", Told::Value(0), b"ok"),
-        (b"delete a", Told::Done, b"no-such-row"),
-        (b"writeappend p \"x\"", Told::Done, b"no-such-row"),
-        (b"rollback", Told::Done, b"ok"),
-    ];
-    assert_eq!(rt; first_other(alloc, &mut core, &rows)?, None);
+    let lines =
+        b"d|ok|insert a;c|commit|commit;0|ok|asof r a 1;d|read-only|write r 1 \"x\";d|unknown-locator|free y;\
+        0|ok|lock p a;0|ok|delete a;d|no-such-row|delete a;d|no-such-row|writeappend p \"x\";d|ok|rollback;";
+    assert_eq!(rt; play_anew(rt.alloc(), lines)?, 10);
     Ok(())
 }
 
-// Selects row a by so many names of two letters, and answers how many were replied so.
-fn select_names(alloc: Global, core: &mut SessionCore, count: u8) -> Mem<u8> {
-    let mut done = 0;
+// Sets so many locators, each with a name of two letters, and answers how many calls are replied `ok`.
+fn select_names(alloc: Global, core: &mut SessionCore, count: u8) -> Mem<usize> {
+    let mut done = 0usize;
     for k in 0..count {
-        let name = [b'a' + k / 16, b'a' + k % 16];
-        let mut text = Vec::from_slice(alloc, b"select ")?;
-        text.extend_from_slice(&name)?;
-        text.extend_from_slice(b" a")?;
-        let reply = spelled(alloc, make(alloc, core, text.as_slice(), Told::Value(3))?)?;
-        if *reply.as_slice() == *b"ok" {
-            done += 1;
+        let mut line = Vec::from_slice(alloc, b"3|ok|select ")?;
+        line.extend_from_slice(&[b'a' + k / 16, b'a' + k % 16])?;
+        line.extend_from_slice(b" a")?;
+        if replies_so(alloc, core, line.as_slice())? {
+            done = done.wrapping_add(1);
         }
     }
     Ok(done)
 }
 
+// Plays lines on a session that has 255 locators.
+fn play_with_255(alloc: Global, lines: &[u8]) -> Mem<usize> {
+    let mut core = SessionCore::new(alloc, 1, 512);
+    if select_names(alloc, &mut core, 255)? != 255 {
+        return Err(OutOfMemory);
+    }
+    play(alloc, &mut core, lines)
+}
+
 #[test]
 fn a_session_has_256_locators(rt: HostRuntime) -> Result<(), Fail> {
-    let alloc = rt.alloc();
-    let mut core = SessionCore::new(alloc, 1, 512);
-    assert_eq!(rt; select_names(alloc, &mut core, 255)?, 255);
-    let rows: [Row; 4] = [
-        (b"select p a", Told::Value(3), b"ok"),
-        (b"select new a", Told::Value(3), b"too-many-locators"),
-        (b"select p a", Told::Value(2), b"ok"),
-        (b"length p", Told::Done, b"2"),
-    ];
-    assert_eq!(rt; first_other(alloc, &mut core, &rows)?, None);
+    let lines = b"3|ok|select p a;3|too-many-locators|select new a;2|ok|select p a;d|2|length p;";
+    assert_eq!(rt; play_with_255(rt.alloc(), lines)?, 4);
     Ok(())
 }
 
 #[test]
 fn a_rollback_to_a_savepoint(rt: HostRuntime) -> Result<(), Fail> {
-    let alloc = rt.alloc();
-    let mut core = SessionCore::new(alloc, 1, 512);
-    let rows: [Row; 13] = [
-        (b"insert a", Told::Done, b"ok"),
-        (b"lock p a", Told::Done, b"ok"),
-        (b"writeappend p \"ab\"", Told::Done, b"ok"),
-        (b"select q a", Told::Done, b"ok"),
-        (b"savepoint s", Told::Done, b"ok"),
-        (b"writeappend p \"cd\"", Told::Done, b"ok"),
-        (b"insert b", Told::Done, b"ok"),
-        (b"rollback to s", Told::Done, b"ok"),
-        (b"read p 1 1", Told::Done, b"lost"),
-        (b"read q 9 1", Told::Done, b"ab"),
-        (b"writeappend q \"Z\"", Told::Done, b"ok"),
-        (b"read q 9 1", Told::Done, b"abZ"),
-        (b"rollback to t", Told::Done, b"no-savepoint"),
-    ];
-    assert_eq!(rt; first_other(alloc, &mut core, &rows)?, None);
+    let lines =
+        b"d|ok|insert a;d|ok|lock p a;d|ok|writeappend p \"ab\";d|ok|select q a;d|ok|savepoint s;\
+        d|ok|writeappend p \"cd\";d|ok|insert b;d|ok|rollback to s;d|lost|read p 1 1;d|ab|read q 9 1;\
+        d|ok|writeappend q \"Z\";d|abZ|read q 9 1;d|no-savepoint|rollback to t;";
+    assert_eq!(rt; play_anew(rt.alloc(), lines)?, 13);
     Ok(())
 }

@@ -1,4 +1,9 @@
 //! A stand-in for the store: it answers what a test tells it.
+ghost use Rattle.std.specs.Prelude.{◌≡◌, IfOk};
+ghost use Rattle.sf_types.specs.declared.reply.Fault.{Fault as RuleFault};
+ghost use Rattle.sf_types.specs.Halves.Asks.{Known};
+ghost use Rattle.sf_versions.specs.Asks.{request_of_part};
+ghost use Rattle.sf_own_part.specs.Ends.{IsRefusing, IsTwin};
 
 use sf_chunk_map::Map;
 use sf_script_calls::{call_form, spelled_call};
@@ -34,7 +39,10 @@ fn value_of(alloc: Global, count: usize) -> Mem<Map> {
     Map::of_blob(alloc, Blob::new(alloc, &text[..count])?)
 }
 
-fn answer_of(alloc: Global, told: Told) -> Mem<Answer> {
+// What the store answers as it is told. A value is answered twice.
+fn answer_of(alloc: Global, told: Told) -> Mem<Answer>
+    ensures { IfOk result IsTwin }
+{
     match told {
         Told::Done => Ok(Answer::Done),
         Told::Value(count) => {
@@ -47,17 +55,33 @@ fn answer_of(alloc: Global, told: Told) -> Mem<Answer> {
     }
 }
 
+// What the store answers to an ask: the refusal that the session knows, and else what it is told.
+fn answer_to(alloc: Global, ask: &Ask, told: Told) -> Mem<Answer>
+    ensures twin { IfOk result IsTwin }
+    ensures refused { (fault : RuleFault) → request_of_part ask.now.part ≡ Known fault → IfOk result IsRefusing }
+{
+    match &ask.part {
+        Part::Known(fault) => Ok(Answer::Refused(*fault)),
+        _ => answer_of(alloc, told),
+    }
+}
+
 // Ends the standing call by the store's answer. It counts as want of memory where no answer is awaited.
 fn end_by_answer(alloc: Global, core: &mut SessionCore, told: Told) -> Mem<Reply> {
     let Need::Event = core.next() else {
         return Err(OutOfMemory);
     };
-    let Ask { part, .. } = core.ask()?;
-    let answer = match part {
-        Part::Known(fault) => Answer::Refused(fault),
-        _ => answer_of(alloc, told)?,
-    };
-    Ok(core.accept(answer))
+    let ask = core.ask()?;
+    match answer_to(alloc, &ask, told) {
+        Ok(answer) => {
+            drop(ask);
+            Ok(core.accept(answer))
+        }
+        Err(error) => {
+            drop(ask);
+            Err(error)
+        }
+    }
 }
 
 /// Makes the call that a text spells.
