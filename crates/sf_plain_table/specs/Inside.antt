@@ -1,0 +1,2 @@
+-- Words of the clauses of the crate's own functions.
+pub mod MarkViews
