@@ -2,7 +2,9 @@
 #![tactic(auto)]
 
 pub mod edits;
+mod faults;
 mod marked;
+mod results;
 mod value;
 
 pub use marked::{Mark, Marked};
