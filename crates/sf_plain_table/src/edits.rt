@@ -12,8 +12,8 @@ fn front<T: Copy>(v: &[T], count: u64) -> &[T]
     &v[..count.min(v.len() as u64) as usize]
 }
 
-// The items of a list behind the first ones.
-fn behind<T: Copy>(v: &[T], count: u64) -> &[T]
+/// The items of a list behind the first ones, so many.
+pub fn behind<T: Copy>(v: &[T], count: u64) -> &[T]
     ensures { result.now ≡ drop count v.now }
 {
     &v[count.min(v.len() as u64) as usize..]

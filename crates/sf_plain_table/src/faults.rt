@@ -74,7 +74,7 @@ fn end_of(offset: u64, bytes: u64) -> u128
 }
 
 // How Read is refused in a value of so many bytes.
-fn read_fault(amount: u64, offset: u64, size: u64) -> Option<Fault>
+pub fn read_fault(amount: u64, offset: u64, size: u64) -> Option<Fault>
     ensures { result ≡ first_refusal (read_arguments amount offset size) }
 {
     first_fault(
@@ -85,14 +85,14 @@ fn read_fault(amount: u64, offset: u64, size: u64) -> Option<Fault>
 }
 
 // How Instr is refused.
-fn instr_fault(pattern: &Blob, offset: u64) -> Option<Fault>
+pub fn instr_fault(pattern: &Blob, offset: u64) -> Option<Fault>
     ensures { result ≡ first_refusal (instr_arguments pattern.now offset) }
 {
     range_fault(is_buffer_out_of_range(pattern) || offset == 0)
 }
 
 // How Compare is refused.
-fn compare_fault(amount: u64, left_offset: u64, right_offset: u64) -> Option<Fault>
+pub fn compare_fault(amount: u64, left_offset: u64, right_offset: u64) -> Option<Fault>
     ensures { result ≡ first_refusal (compare_arguments amount left_offset right_offset) }
 {
     range_fault(amount == 0 || left_offset == 0 || right_offset == 0)
