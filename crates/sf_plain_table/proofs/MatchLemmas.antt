@@ -11,9 +11,4 @@ pub next_offset : (p : ℕ → Bool) (at end : ℕ) → at < end → p at ≡ fa
 next_offset p at end less misses =
     let rest = end - (at + 1) in
     let count : end - at ≡ suc rest = omega (arith, less) in
-    let next : suc at ≡ at + 1 = omega arith in
-    sym (
-    ap (λ n. find p (range_with_len at n)) count
-    ∙ skipped p at (range_with_len (suc at) rest) misses
-    ∙ ap (λ n. find p (range_with_len n rest)) next
-    )
+    sym (ap (λ n. find p (range_with_len at n)) count ∙ skipped p at (range_with_len (at + 1) rest) misses)

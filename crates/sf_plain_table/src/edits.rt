@@ -5,15 +5,15 @@ ghost use Rattle.sf_types.specs.Values.Edits as edits;
 use sf_types::Mem;
 use std::alloc::Global;
 
-// The first items of a list, so many or all.
-fn front<T: Copy>(v: &[T], count: u64) -> &[T]
+/// The first items of a list, so many or all.
+pub fn front<T>(v: &[T], count: u64) -> &[T]
     ensures { result.now ≡ take count v.now }
 {
     &v[..count.min(v.len() as u64) as usize]
 }
 
 /// The items of a list behind the first ones, so many.
-pub fn behind<T: Copy>(v: &[T], count: u64) -> &[T]
+pub fn behind<T>(v: &[T], count: u64) -> &[T]
     ensures { result.now ≡ drop count v.now }
 {
     &v[count.min(v.len() as u64) as usize..]

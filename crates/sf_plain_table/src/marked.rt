@@ -10,7 +10,7 @@ use std::marker::Model;
 pub enum Mark {
     Zero,
     Fresh,
-    Stored { birth: u128, index: u32 },
+    Stored { birth: u128, index: u64 },
 }
 
 /// A byte with its mark, seen as the rules' marked byte.
