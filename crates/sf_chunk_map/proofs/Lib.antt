@@ -6,6 +6,7 @@ pub mod LendingLemmas
 pub mod ListedLemmas
 pub mod MaximalLemmas
 pub mod PieceLemmas
+pub mod ReadingLemmas
 pub mod SeamLemmas
 pub mod SegmentLemmas
 pub mod SettleLemmas

@@ -3,5 +3,6 @@ pub mod Counts
 pub mod FreshBytes
 pub mod LastPieces
 pub mod Trees
+pub mod Readings
 pub mod Seams
 pub mod Settling

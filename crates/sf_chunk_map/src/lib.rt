@@ -10,6 +10,7 @@ mod map;
 mod maximal;
 mod parts;
 mod piece_unit;
+mod reading;
 mod seams;
 mod settling;
 mod slices;

@@ -1,6 +1,6 @@
 //! Parts of values.
-ghost use Rattle.std.specs.Prelude.{◌≡◌, ◌+◌, ◌-◌, ◌≤◌, ◌++◌, length, take, drop, replicate, min, IfOk};
-ghost use Rattle.sf_types.specs.Values.Marks.{bytes_in, size_of, strip};
+ghost use Rattle.std.specs.Prelude.{◌≡◌, ◌+◌, ◌-◌, ◌≤◌, ◌++◌, length, take, drop, min, IfOk};
+ghost use Rattle.sf_types.specs.Values.Marks.{size_of, strip};
 ghost use Rattle.sf_chunk_map.specs.Contents.{window};
 ghost use Rattle.sf_chunk_map.specs.Maps.{sliced, LiesWithin};
 ghost use Rattle.sf_chunk_map.specs.Pieces.{marked_of, marked_in};
@@ -8,6 +8,7 @@ ghost use Rattle.sf_chunk_map.specs.Pieces.{marked_of, marked_in};
 use crate::counting::counts_of;
 use crate::map::Map;
 use crate::parts::Piece;
+use crate::reading::{Reading, read_tree};
 use sf_piece_tree::{PieceTree, Unit};
 use sf_types::{Mem, TryCopy};
 use std::alloc::Global;
@@ -57,47 +58,6 @@ fn sliced_tree(alloc: Global, tree: &PieceTree<Piece>, at: u64, len: u64) -> Mem
     Ok(slice)
 }
 
-// Copies bytes into a slice from an index on, as many as there are and the slice takes. Answers their number.
-fn copy_at(bytes: &[u8], into: &mut [u8], at: usize) -> usize
-    requires { at ≤ length into.old }
-    ensures count { result ≡ min (length into.old - at) (length bytes.now) }
-    ensures bytes { into.new ≡ take at into.old ++ (take result bytes.now ++ drop (at + result) into.old) }
-{
-    let count = (into.len() - at).min(bytes.len());
-    into[at..at + count].copy_from_slice(&bytes[..count]);
-    count
-}
-
-// Fills a slice with zeros from an index on, as many as there are and the slice takes. Answers their number.
-fn zero_at(zeros: u64, into: &mut [u8], at: usize) -> usize
-    requires { at ≤ length into.old }
-    ensures count { result ≡ min (length into.old - at) zeros }
-    ensures bytes { into.new ≡ take at into.old ++ (replicate result 0 ++ drop (at + result) into.old) }
-{
-    let count = ((into.len() - at) as u64).min(zeros) as usize;
-    into[at..at + count].fill(0);
-    count
-}
-
-// Copies bytes of a piece, those from an index of it on, into a slice from another index on, as many as there are and the
-// slice takes. Answers their number.
-fn read_piece(piece: &Piece, from: u64, into: &mut [u8], at: usize) -> usize
-    requires from { from ≤ length (marked_of piece.now) }
-    requires at { at ≤ length into.old }
-    ensures count { result ≡ min (length into.old - at) (length (marked_of piece.now) - from) }
-    ensures bytes { into.new ≡ take at into.old ++ (window from result (bytes_in (marked_of piece.now)) ++ drop (at + result) into.old) }
-{
-    match piece {
-        Piece::Stored(part) => {
-            let _size = part.size();
-            let _len = part.len();
-            copy_at(&part.as_bytes()[from as usize..], into, at)
-        }
-        Piece::Zero(part) => zero_at(part.len() - from, into, at),
-        Piece::Fresh(part) => copy_at(&part.as_bytes()[from as usize..], into, at),
-    }
-}
-
 impl Map {
     /// So many bytes from one on. The choice is that of this value. It costs in proportion to the pieces of the part, and to
     /// the depth.
@@ -117,21 +77,16 @@ impl Map {
     }
 
     /// Fills a slice with the bytes from one on, as many as there are and the slice takes, and leaves the rest of it. Answers
-    /// their number. It takes no memory.
+    /// their number. It takes no memory, and walks down the tree once: it costs in proportion to the bytes, to their pieces and
+    /// to the depth.
     pub fn read_into(&self, at: u64, into: &mut [u8]) -> usize
         requires { at ≤ size_of self.now }
         ensures count { result ≡ min (length into.old) (size_of self.now - at) }
         ensures bytes { into.new ≡ window at result (strip self.now) ++ drop result into.old }
     {
-        let left = self.len() - at;
-        let count = (into.len() as u64).min(left) as usize;
-        let mut done = 0;
-        while done < count {
-            let Some((piece, from)) = self.tree.find(at + done as u64) else {
-                unreachable!();
-            };
-            done += read_piece(piece, from, into, done);
-        }
-        count
+        let _len = self.len();
+        let mut reading = Reading::new(into);
+        read_tree(&self.tree, at, &mut reading);
+        reading.done
     }
 }

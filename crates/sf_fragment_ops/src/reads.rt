@@ -25,7 +25,8 @@ pub fn bytes_from(alloc: Global, value: &Map, at: u64, amount: u64) -> Mem<Blob>
     Blob::from_vec(bytes)
 }
 
-/// The bytes of a value from an offset on, amount of them or up to the end, or how Read is refused.
+/// The bytes of a value from an offset on, amount of them or up to the end, or how Read is refused. It costs in proportion to
+/// those bytes, to their pieces and to the depth of the tree.
 pub fn read(alloc: Global, value: &Map, amount: u64, offset: u64) -> Mem<Result<Blob, Fault>>
     ensures { IfOk result (λ answer. answer ≡ answered (first_refusal (read_arguments amount offset (size_of value.now))) (read_bytes value.now amount offset)) }
 {
@@ -43,7 +44,8 @@ fn part_len(value: &Map, amount: u64, offset: u64) -> u64
 }
 
 /// Whether parts of two values are equal, each the bytes from its offset, amount of them or up to the end, or how Compare is
-/// refused. It takes no memory.
+/// refused. It takes no memory. It costs in proportion to the bytes compared, and to the depth of each tree for each piece of
+/// the two parts.
 pub fn compare(
     left: &Map,
     right: &Map,

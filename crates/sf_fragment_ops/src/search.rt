@@ -133,7 +133,9 @@ fn found_offset(alloc: Global, value: &Map, pattern: &Blob, offset: u64) -> Mem<
 }
 
 /// The least offset from a given one on at which a pattern stands in a value, or 0, or how Instr is refused. It costs in
-/// proportion to the bytes looked through, and takes memory for a window of twice the pattern or some thousand bytes.
+/// proportion to the bytes looked through and to their pieces, and besides a walk from the root, in proportion to the tree's
+/// depth, for each piece that is as long as the pattern or longer, and for each window of shorter ones. It takes memory for one
+/// window, of twice the pattern or some thousand bytes.
 pub fn instr(alloc: Global, value: &Map, pattern: &Blob, offset: u64) -> Mem<Result<u64, Fault>>
     ensures { IfOk result (λ answer. answer ≡ answered (first_refusal (instr_arguments pattern.now offset)) (match_offset (strip value.now) pattern.now offset)) }
 {

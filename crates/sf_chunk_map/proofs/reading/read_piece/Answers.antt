@@ -5,7 +5,7 @@ use Rattle.sf_chunk_map.specs.declared.parts.Piece.{Piece}
 use Rattle.sf_chunk_map.specs.Contents.{window}
 use Rattle.sf_chunk_map.specs.Pieces.{marked_of}
 use Rattle.sf_chunk_map.proofs.PieceLemmas.{bytes_stored, bytes_of_fresh, rest_of, zeros_in_window}
-use Rattle.sf_chunk_map.proofs.slices.read_piece.Goals as goal
+use Rattle.sf_chunk_map.proofs.reading.read_piece.Goals as goal
 
 pub returns-in-Stored-clause-count : goal.returns-in-Stored-clause-count
 returns-in-Stored-clause-count c =
