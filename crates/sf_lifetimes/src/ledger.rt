@@ -2,6 +2,7 @@
 ghost use Rattle.std.specs.Prelude.{◌≡◌, ◌≢◌, ◌-◌, ◌≤◌, ◌^◌, ◌++◌, [], length, map, All, AllPairs, None, IsSome, is_some, IfOk, OnOk};
 ghost use Rattle.std.specs.Option.{option_copied};
 ghost use Rattle.std.specs.FinMap as fin;
+ghost use Rattle.sf_types.specs.Inside.Births.{IsRising};
 ghost use Rattle.sf_types.specs.Rooms.{MakesRoom, GrowsWithin, MovesWithin};
 ghost use Rattle.sf_shrink.specs.Plans.{ArePlaced};
 ghost use Rattle.sf_lifetimes.specs.Ledgers.{number_of_holders, is_live, live_places, waiting_places, place_of, listed_places, live_blocks, IsNewPlace, held_by, unheld_births, with_holding, unheld_places, freed_by};
@@ -9,8 +10,8 @@ ghost use Rattle.sf_lifetimes.specs.Shifts.{AreSafeShifts};
 
 use crate::holding_map::HoldingMap;
 use crate::place_map::PlaceMap;
-pub use crate::place_map::UnheldPlaces;
 use crate::tally::freed_blocks;
+use crate::unheld_places::UnheldPlaces;
 use sf_shrink::ShiftList;
 use sf_types::{BirthRunsList, Births, ContentRuns, Holder, HolderList, Mem};
 use std::alloc::Global;
@@ -87,6 +88,14 @@ impl Ledger {
         ensures live { is_some result ≡ is_live self.now.held.holdings birth }
     {
         self.places.runs_of(birth)
+    }
+
+    /// The births of a holder, rising, none where it holds nothing.
+    pub fn births_of(&self, holder: &Holder) -> &[u128]
+        ensures births { result.now ≡ held_by self.now.held.holdings holder.now }
+        ensures rising { IsRising result.now }
+    {
+        self.holdings.births_of(holder)
     }
 
     /// The live births with copies of their places, in rising order.

@@ -8,5 +8,7 @@ mod ledger;
 mod place_map;
 mod rising;
 mod tally;
+mod unheld_places;
 
-pub use ledger::{Ledger, UnheldPlaces};
+pub use ledger::Ledger;
+pub use unheld_places::UnheldPlaces;
