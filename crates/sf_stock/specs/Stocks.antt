@@ -1,0 +1,101 @@
+-- What a store keeps of contents: who holds them, where they stand, and the blocks of those that left (our own, after VLDB 2008).
+use Rattle.std.specs.Prelude.{◌≡◌, ◌≢◌, ℕ, ◌+◌, ◌≤◌, ◌<◌, ◌^◌, Bool, not, ◌&&◌, ◌==◌, bytes_eq, List, [], ◌∷◌, ◌++◌, map, length, find, All, AllPairs, Contains, Option}
+use Rattle.std.specs.List.{filter, list_any}
+use Rattle.std.specs.Option.{option_map}
+use Rattle.std.specs.FinMap as fin
+use Rattle.sf_types.specs.declared.holder.Holder.{Holder}
+use Rattle.sf_types.specs.declared.run.Run.{Run}
+use Rattle.sf_types.specs.Table.Parts.{Content}
+use Rattle.sf_types.specs.Space.BlockRuns.{blocks_in}
+use Rattle.sf_types.specs.Space.Contents.{blocks_of}
+use Rattle.sf_types.specs.Space.Placings.{Placed, all_blocks}
+use Rattle.sf_types.specs.Play.Blocks.{places_by_first}
+use Rattle.sf_lifetimes.specs.Ledgers.{Holdings, with_births, is_live}
+
+-- A birth that has a place: its content, and its blocks in the content's order.
+pub record Stocked : Type 0 where
+  pub birth : ℕ
+  pub content : Content
+  pub blocks : List ℕ
+
+-- A content that comes: its bytes, whether it is shared, and the runs in which it is to stand.
+pub record NewContentView : Type 0 where
+  pub content : Content
+  pub runs : List Run
+
+-- A stock: the births of each holder; the number of the next birth; the births that have a place, rising; those that nobody
+-- holds any more and whose blocks are not parked yet, in the order in which they left; and the parked blocks, the one that
+-- was parked first before the others.
+pub record StockView : Type 0 where
+  pub holdings : Holdings
+  pub next : ℕ
+  pub stocked : List Stocked
+  pub left : List Placed
+  pub parked : List ℕ
+
+-- A stock of nothing. Births are numbered from 1.
+abbrev pub empty_stock : StockView
+empty_stock = record { holdings = fin.empty; next = 1; stocked = []; left = []; parked = [] }
+
+-- The place of a birth.
+abbrev pub place_of : Stocked → Placed
+place_of x = record { birth = x.birth; blocks = x.blocks }
+
+-- The births that have a place, and their places, rising.
+abbrev pub births_of : List Stocked → List ℕ
+births_of stocked = map (λ x. x.birth) stocked
+
+abbrev pub places_of : List Stocked → List Placed
+places_of stocked = map place_of stocked
+
+-- Whether a birth has a place.
+abbrev pub is_stocked : List Stocked → ℕ → Bool
+is_stocked stocked birth = list_any (λ x. birth == x.birth) stocked
+
+-- The stock with a new content, which gets the next birth and which nobody holds yet.
+abbrev pub with_new : StockView → NewContentView → StockView
+with_new stock new = record stock {
+  next = stock.next + 1;
+  stocked = stock.stocked ++ record { birth = stock.next; content = new.content; blocks = blocks_in new.runs } ∷ [];
+}
+
+-- Whether a birth was held and isn't any more.
+abbrev pub has_left : Holdings → Holdings → ℕ → Bool
+has_left before after birth = is_live before birth && not (is_live after birth)
+
+-- The stock once holders hold other births: those that nobody holds any more leave, each with its place, in rising order.
+abbrev pub with_holdings : StockView → Holdings → StockView
+with_holdings stock after = record stock {
+  holdings = after;
+  stocked = filter (λ x. not (has_left stock.holdings after x.birth)) stock.stocked;
+  left = stock.left ++ places_of (filter (λ x. has_left stock.holdings after x.birth) stock.stocked);
+}
+
+-- The stock once a holder holds these births in place of what it held.
+abbrev pub with_holder : StockView → Holder → List ℕ → StockView
+with_holder stock holder births = with_holdings stock (with_births stock.holdings holder births)
+
+-- The stock once the blocks of all births that left are parked, of a place that begins with a lower block first.
+abbrev pub with_left_parked : StockView → StockView
+with_left_parked stock = record stock { left = []; parked = stock.parked ++ all_blocks (places_by_first stock.left) }
+
+-- Whether this is a shared content of these bytes.
+abbrev pub is_shared_with : List ℕ → Stocked → Bool
+is_shared_with bytes x = x.content.is_shared && bytes_eq x.content.bytes bytes
+
+-- The birth of the shared content of these bytes, where there is one.
+abbrev pub shared_birth : List Stocked → List ℕ → Option ℕ
+shared_birth stocked bytes = option_map (λ x. x.birth) (find (is_shared_with bytes) stocked)
+
+-- All blocks of a stock: of the places, of those that left, and the parked ones.
+abbrev pub stock_blocks : StockView → List ℕ
+stock_blocks stock = all_blocks (places_of stock.stocked) ++ (all_blocks stock.left ++ stock.parked)
+
+-- A content that a stock can take: its blocks are below 2^32, named once each, and stand nowhere in the stock; and they are as
+-- many as its bytes take, one at least.
+pub record IsNewPlace (stock : StockView) (new : NewContentView) : Type 0 where
+  pub below : All (λ block. block < 2 ^ 32) (blocks_in new.runs)
+  pub once : AllPairs (λ block other. block ≢ other) (blocks_in new.runs)
+  pub apart : All (λ block. ¬ (Contains (stock_blocks stock) block)) (blocks_in new.runs)
+  pub count : length (blocks_in new.runs) ≡ blocks_of (length new.content.bytes)
+  pub some : 1 ≤ length (blocks_in new.runs)
