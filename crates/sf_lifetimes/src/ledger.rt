@@ -8,9 +8,10 @@ ghost use Rattle.sf_shrink.specs.Plans.{ArePlaced};
 ghost use Rattle.sf_lifetimes.specs.Ledgers.{number_of_holders, is_live, live_places, waiting_places, place_of, listed_places, live_blocks, IsNewPlace, held_by, unheld_births, with_holding, unheld_places, freed_by};
 ghost use Rattle.sf_lifetimes.specs.Shifts.{AreSafeShifts};
 
+use crate::given_up::GivenUp;
 use crate::holding_map::HoldingMap;
 use crate::place_map::PlaceMap;
-use crate::tally::freed_blocks;
+use crate::tally::{TallyMap, freed_blocks};
 use crate::unheld_places::UnheldPlaces;
 use sf_shrink::ShiftList;
 use sf_types::{BirthRunsList, Births, ContentRuns, Holder, HolderList, Mem};
@@ -174,6 +175,19 @@ impl Ledger {
             &self.holdings,
             holders.as_slice(),
         )
+    }
+
+    /// No holder given up yet. It takes no memory.
+    pub fn give_up(&self) -> GivenUp<'_>
+        ensures ledger { result.ledger ≡ self.now.held }
+        ensures holders { result.holders ≡ [] }
+    {
+        GivenUp {
+            places: &self.places,
+            holdings: &self.holdings,
+            holders: Vec::new(self.alloc),
+            tally: TallyMap::new(self.alloc),
+        }
     }
 
     /// Gives each live birth its new place. The shifts name the live births, each once and rising, each with as many blocks

@@ -2,6 +2,7 @@
 #![tactic(auto)]
 
 mod counted;
+mod given_up;
 mod holder_key;
 mod holding_map;
 mod ledger;
@@ -10,5 +11,6 @@ mod rising;
 mod tally;
 mod unheld_places;
 
+pub use given_up::GivenUp;
 pub use ledger::Ledger;
 pub use unheld_places::UnheldPlaces;
