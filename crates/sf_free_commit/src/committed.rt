@@ -68,9 +68,10 @@ impl Committed {
         self.parked
     }
 
-    /// The number of runs in which the parked blocks stand.
+    /// The number of runs in which the parked blocks stand, a block or more in each.
     pub fn run_count(&self) -> usize
-        ensures { result ≡ length self.now.held }
+        ensures count { result ≡ length self.now.held }
+        ensures few { result ≤ length (blocks_in self.now.held) }
     {
         self.queue.len()
     }

@@ -36,7 +36,7 @@ without_is (e ∷ es) b sorted =
           ∙ ap (λ t. cond (not t) (e ∷ filter (λ e. not (b == e.0)) es) (filter (λ e. not (b == e.0)) es)) (sym is)
     ] (unsigned_ties b e.0)
 
-filter_both : {X : Type 0} (p q : X → Bool) (xs : List X) → filter p (filter q xs) ≡ filter (λ x. q x && p x) xs
+pub filter_both : {X : Type 0} (p q : X → Bool) (xs : List X) → filter p (filter q xs) ≡ filter (λ x. q x && p x) xs
 filter_both p q [] = refl
 filter_both p q (x ∷ xs) =
     let rest = filter_both p q xs in

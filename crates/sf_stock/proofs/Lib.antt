@@ -5,3 +5,5 @@ pub mod NewLemmas
 pub mod ForgetLemmas
 pub mod LeaveLemmas
 pub mod ParkLemmas
+pub mod ReadLemmas
+pub mod ListLemmas

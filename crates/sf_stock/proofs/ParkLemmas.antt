@@ -1,5 +1,5 @@
 -- Places in the order of their first blocks.
-use Rattle.std.proofs.Common.{◌≡◌, ℕ, zero, suc, ◌+◌, ◌-◌, ◌<◌, ◌≤◌, ◌^◌, true, false, cond, List, [], ◌∷◌, ◌++◌, map, length, get_or, refl, sym, ap, subst, ◌∙◌, arith}
+use Rattle.std.proofs.Common.{◌≡◌, ℕ, zero, suc, ◌+◌, ◌-◌, ◌<◌, ◌≤◌, ◌^◌, true, false, cond, List, [], ◌∷◌, ◌++◌, map, length, drop, get_or, refl, sym, ap, subst, ◌∙◌, arith}
 use Rattle.std.specs.Prelude.{nat_lt, slice_get, slice_index_or, All, ◌==◌}
 use Rattle.std.specs.List.{AllByRecursion, IsDistinct, range_with_len, sum_by}
 use Rattle.std.specs.List.Sorted.{IsPermutation, IsSortedByKey}
@@ -13,7 +13,7 @@ use Rattle.std.specs.Map.{keys_of}
 use Rattle.std.proofs.lemmas.List.{length-append, length-map, get_or-map}
 use Rattle.std.proofs.lemmas.List.Elements.{All-from_recursion}
 use Rattle.std.proofs.lemmas.List.Sorted.{IsPermutation-map, sum_by-IsPermutation}
-use Rattle.std.proofs.lemmas.List.Sums.{sum_by-cons}
+use Rattle.std.proofs.lemmas.List.Sums.{sum_by-cons, sum_by-take-drop}
 use Rattle.sf_types.specs.declared.birth_runs.BirthRuns.{BirthRuns}
 use Rattle.sf_types.specs.declared.run.Run.{Run}
 use Rattle.sf_types.specs.Rooms.{Roomy}
@@ -279,5 +279,40 @@ stock_parked ledger index known left sorted cleared parked after next runs room 
         parked_room = omega (arith, rooms.parked_room, parked_room, stands.counted, count, sums);
         birth_room = rooms.birth_room;
         run_number = omega (arith, rooms.run_number);
+      };
+    }
+
+-- ---- a stock whose first parked blocks are taken
+pub stock_ripe : (ledger : Roomy LedgerView) (index : Roomy Contents) (known : Roomy KnownMap) (left : Roomy (List BirthRuns)) (parked after : Roomy (List Run)) (next runs room count : ℕ) → IsStock ledger index known left parked next runs room
+    → blocks_in after.held ≡ drop count (blocks_in parked.held) → parked.spare ≤ after.spare → IsStock ledger index known left after next runs room
+stock_ripe ledger index known left parked after next runs room count stands dropped parked_room =
+    let rooms = stands.rooms in
+    let before = all_blocks (map placed_at left.held) in
+    let placed = all_blocks (places_of (map (stocked_in ledger.held.places) known.held)) in
+    record {
+      births = stands.births;
+      blocks = record {
+        kept = stands.blocks.kept;
+        whole = stands.blocks.whole;
+        once = λ block. omega (
+          arith,
+          stands.blocks.once block,
+          count-append block placed (before ++ blocks_in parked.held),
+          count-append block before (blocks_in parked.held),
+          count-append block placed (before ++ blocks_in after.held),
+          count-append block before (blocks_in after.held),
+          ap (count_of block) dropped,
+          sum_by-take-drop (λ y. cond (block == y) 1 0) (blocks_in parked.held) count,
+        );
+      };
+      counted = stands.counted;
+      rooms = record {
+        ledger_room = rooms.ledger_room;
+        index_room = rooms.index_room;
+        known_room = rooms.known_room;
+        left_room = rooms.left_room;
+        parked_room = omega (arith, rooms.parked_room, parked_room);
+        birth_room = rooms.birth_room;
+        run_number = rooms.run_number;
       };
     }

@@ -1,16 +1,20 @@
 -- What a store keeps of contents: who holds them, where they stand, and the blocks of those that left (our own, after VLDB 2008).
-use Rattle.std.specs.Prelude.{◌≡◌, ◌≢◌, ℕ, ◌+◌, ◌≤◌, ◌<◌, ◌^◌, Bool, not, ◌&&◌, ◌==◌, bytes_eq, List, [], ◌∷◌, ◌++◌, map, length, find, All, AllPairs, Contains, Option}
+use Rattle.std.specs.Prelude.{◌≡◌, ◌≢◌, ℕ, ◌+◌, ◌≤◌, ◌<◌, ◌^◌, Bool, not, ◌&&◌, ◌==◌, bytes_eq, List, [], ◌∷◌, ◌++◌, map, length, drop, find, All, AllPairs, Contains, Option}
 use Rattle.std.specs.List.{filter, list_any}
 use Rattle.std.specs.Option.{option_map}
 use Rattle.std.specs.FinMap as fin
+use Rattle.sha2.specs.Sha256.{sha256}
 use Rattle.sf_types.specs.declared.holder.Holder.{Holder}
+use Rattle.sf_types.specs.declared.limits.TheConstants.{CONTENT_BYTES}
+use Rattle.sf_types.specs.declared.place.Place.{Place}
 use Rattle.sf_types.specs.declared.run.Run.{Run}
 use Rattle.sf_types.specs.Table.Parts.{Content}
 use Rattle.sf_types.specs.Space.BlockRuns.{blocks_in}
 use Rattle.sf_types.specs.Space.Contents.{blocks_of}
+use Rattle.sf_types.specs.Space.Grants.{maximal_runs}
 use Rattle.sf_types.specs.Space.Placings.{Placed, all_blocks}
 use Rattle.sf_types.specs.Play.Blocks.{places_by_first}
-use Rattle.sf_lifetimes.specs.Ledgers.{Holdings, with_births, is_live}
+use Rattle.sf_lifetimes.specs.Ledgers.{Holdings, with_births, without_holders, is_live}
 
 -- A birth that has a place: its content, and its blocks in the content's order.
 pub record Stocked : Type 0 where
@@ -91,11 +95,36 @@ shared_birth stocked bytes = option_map (λ x. x.birth) (find (is_shared_with by
 abbrev pub stock_blocks : StockView → List ℕ
 stock_blocks stock = all_blocks (places_of stock.stocked) ++ (all_blocks stock.left ++ stock.parked)
 
--- A content that a stock can take: its blocks are below 2^32, named once each, and stand nowhere in the stock; and they are as
--- many as its bytes take, one at least.
+-- A content that a stock can take: it is no longer than a content may be; its blocks are below 2^32, named once each, and stand
+-- nowhere in the stock; and they are as many as its bytes take, one at least.
 pub record IsNewPlace (stock : StockView) (new : NewContentView) : Type 0 where
   pub below : All (λ block. block < 2 ^ 32) (blocks_in new.runs)
   pub once : AllPairs (λ block other. block ≢ other) (blocks_in new.runs)
   pub apart : All (λ block. ¬ (Contains (stock_blocks stock) block)) (blocks_in new.runs)
   pub count : length (blocks_in new.runs) ≡ blocks_of (length new.content.bytes)
   pub some : 1 ≤ length (blocks_in new.runs)
+  pub size : length new.content.bytes ≤ CONTENT_BYTES
+
+-- The births that somebody holds.
+abbrev pub live_of : StockView → List Stocked
+live_of stock = filter (λ x. is_live stock.holdings x.birth) stock.stocked
+
+-- How a birth is listed: its length in bytes, its digest, and the maximal runs of its blocks.
+abbrev pub listed_place : Stocked → Place
+listed_place x = record { birth = x.birth; len = length x.content.bytes; sum = sha256 x.content.bytes; runs = maximal_runs x.blocks }
+
+-- What a birth has that has a place.
+abbrev pub stocked_at : List Stocked → ℕ → Option Stocked
+stocked_at stocked birth = find (λ x. birth == x.birth) stocked
+
+-- The number of blocks of some births.
+abbrev pub block_count : List Stocked → ℕ
+block_count stocked = length (all_blocks (places_of stocked))
+
+-- The blocks of the births that none but some holders hold.
+abbrev pub freed_blocks : StockView → List Holder → ℕ
+freed_blocks stock holders = block_count (filter (λ x. has_left stock.holdings (without_holders stock.holdings holders) x.birth) stock.stocked)
+
+-- The stock without its first parked blocks.
+abbrev pub without_ripe : StockView → ℕ → StockView
+without_ripe stock count = record stock { parked = drop count stock.parked }

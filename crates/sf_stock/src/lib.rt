@@ -3,6 +3,7 @@
 
 mod joining;
 mod known;
+mod listing;
 mod new_content;
 mod parts;
 mod stock;

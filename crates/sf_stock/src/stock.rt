@@ -1,23 +1,24 @@
 //! The stock of a store.
-ghost use Rattle.std.specs.Prelude.{◌≡◌, ◌+◌, ◌-◌, ◌≤◌, ◌++◌, [], true, length, drop, map, All, IfOk, None, OnOk};
-ghost use Rattle.std.specs.FinMap as fin;
+ghost use Rattle.std.specs.Prelude.{◌≡◌, ◌+◌, ◌-◌, ◌≤◌, ◌^◌, ◌++◌, List, [], true, length, map, take, min, All, IfOk, None};
+ghost use Rattle.std.specs.Option.{option_copied, option_map};
+ghost use Rattle.sf_types.specs.declared.holder.Holder.{Holder};
 ghost use Rattle.sf_types.specs.Rooms.{MakesRoom};
 ghost use Rattle.sf_types.specs.Space.BlockRuns.{blocks_in};
-ghost use Rattle.sf_types.specs.Space.Contents.{blocks_of};
 ghost use Rattle.sf_dedup.specs.Prints.{print_of};
-ghost use Rattle.sf_lifetimes.specs.Ledgers.{held_by};
-ghost use Rattle.sf_stock.specs.Stocks.{empty_stock, is_stocked, with_new, with_holder, with_left_parked, shared_birth, IsNewPlace};
+ghost use Rattle.sf_lifetimes.specs.Ledgers.{held_by, freed_by};
+ghost use Rattle.sf_stock.specs.Stocks.{empty_stock, is_stocked, with_new, with_holder, with_left_parked, shared_birth, IsNewPlace, stocked_at, block_count, live_of, listed_place, without_ripe, freed_blocks};
 
 use crate::known::Known;
+use crate::listing::list_places;
 use crate::new_content::NewContent;
 use crate::parts::{
     add_shared, drop_births, forget, hold_births, park_all, place_runs, room_beside,
 };
 use sf_dedup::{Index, Print};
 use sf_free_commit::Committed;
-use sf_lifetimes::{Ledger, UnheldPlaces};
+use sf_lifetimes::{GivenUp, Ledger, UnheldPlaces};
 use sf_room_map::RoomMap;
-use sf_types::{Births, Blob, Holder, Mem, OutOfMemory};
+use sf_types::{Births, Blob, Holder, Mem, OutOfMemory, PlaceList, Runs};
 use std::alloc::Global;
 use std::marker::Model;
 
@@ -33,6 +34,7 @@ pub struct Stock {
     next: u128,
     runs: u64,
     room: u64,
+    alloc: Global,
 }
 
 impl Model for Stock {
@@ -72,6 +74,7 @@ impl Stock {
             next: 1,
             runs: 0,
             room: 0,
+            alloc,
         })
     }
 
@@ -172,5 +175,71 @@ impl Stock {
         ensures { result ≡ shared_birth self.now.held.stocked content.now }
     {
         self.index.find(print, content)
+    }
+
+    /// The content of a birth that has a place, None exactly where it has none.
+    pub fn content_of(&self, birth: u128) -> Option<&Blob>
+        ensures { option_copied result ≡ option_map (λ x. x.content.bytes) (stocked_at self.now.held.stocked birth) }
+    {
+        match self.known.get(&birth) {
+            Some(known) => Some(&known.content),
+            None => None,
+        }
+    }
+
+    /// The print of the content of a birth that has a place, None exactly where it has none.
+    pub fn print_of(&self, birth: u128) -> Option<Print>
+        ensures { result ≡ option_map (λ x. print_of x.content.bytes) (stocked_at self.now.held.stocked birth) }
+    {
+        match self.known.get(&birth) {
+            Some(known) => Some(known.print),
+            None => None,
+        }
+    }
+
+    /// The number of parked blocks.
+    pub fn parked(&self) -> u64
+        ensures { result ≡ length self.now.held.parked }
+    {
+        self.parked.parked()
+    }
+
+    /// The number of blocks of the births that somebody holds, 2^32 at most.
+    pub fn live_blocks(&self) -> u64
+        ensures live { result ≡ block_count (live_of self.now.held) }
+        ensures few { result ≤ 2 ^ 32 }
+    {
+        self.ledger.live_blocks()
+    }
+
+    /// Takes the first `max` parked blocks, or all where there are fewer, and puts their runs behind those of `into`, which has
+    /// room for as many runs as blocks are taken. The answer is the number of the blocks. It takes no memory.
+    pub fn take_ripe(&mut self, max: u64, into: &mut Runs) -> u64
+        requires { min max (length self.old.held.parked) ≤ into.old.spare }
+        ensures count { result ≡ min max (length self.old.held.parked) }
+        ensures taken { blocks_in into.new.held ≡ blocks_in into.old.held ++ take result self.old.held.parked }
+        ensures held { self.new.held ≡ without_ripe self.old.held result }
+        ensures spare { self.new.spare ≡ self.old.spare }
+        ensures into_spare { into.old.spare ≤ into.new.spare + result }
+    {
+        // The parked runs are no more than their blocks.
+        let _ = self.parked.run_count();
+        self.parked.take_batch(max, into)
+    }
+
+    /// The births that somebody holds, rising, each with its length, its digest and the maximal runs of its blocks.
+    pub fn places(&self) -> Mem<PlaceList>
+        ensures { IfOk result (λ places. places ≡ map listed_place (live_of self.now.held)) }
+    {
+        list_places(self.alloc, &self.known, &self.ledger)
+    }
+
+    /// No holder given up yet. What holders that are given up free is told block by block, and no call looks at the others.
+    pub fn give_up(&self) -> GivenUp<'_>
+        ensures holders { result.holders ≡ [] }
+        ensures holdings { result.ledger.holdings ≡ self.now.held.holdings }
+        ensures freed { (holders : List Holder) → freed_by result.ledger holders ≡ freed_blocks self.now.held holders }
+    {
+        self.ledger.give_up()
     }
 }

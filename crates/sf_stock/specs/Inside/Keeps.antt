@@ -1,10 +1,12 @@
 -- What a stock keeps of each birth, and what has to hold of it (our own).
-use Rattle.std.specs.Prelude.{◌≡◌, ℕ, ◌+◌, ◌≤◌, ◌<◌, ◌^◌, ◌==◌, Bool, true, not, T, cond, nat_lt, is_some, List, [], map, length, filter, filter_map, count_by, sum_by, unwrap_or, Option, Some, None, if◌then◌else◌}
+use Rattle.std.specs.Prelude.{◌≡◌, ℕ, ◌+◌, ◌≤◌, ◌<◌, ◌^◌, ◌==◌, Bool, true, not, T, cond, nat_lt, is_some, List, [], map, length, filter, filter_map, count_by, sum_by, unwrap_or, Option, Some, None, if◌then◌else◌, ◌∷◌}
 use Rattle.std.specs.List.{AllByRecursion}
 use Rattle.std.specs.Ordering.{nat_cmp}
 use Rattle.std.specs.FinMap as fin
 use Rattle.std.specs.FinMap.Entries.{is_sorted}
 use Rattle.sf_types.specs.declared.birth_runs.BirthRuns.{BirthRuns}
+use Rattle.sf_types.specs.declared.limits.TheConstants.{CONTENT_BYTES}
+use Rattle.sf_types.specs.declared.place.Place.{Place}
 use Rattle.sf_types.specs.declared.run.Run.{Run}
 use Rattle.sf_types.specs.Rooms.{Roomy}
 use Rattle.sf_types.specs.Space.BlockRuns.{blocks_in, AreRuns}
@@ -15,7 +17,7 @@ use Rattle.sf_dedup.specs.Contents.{Contents, with_content}
 use Rattle.sf_shrink.specs.Plans.{placed_at}
 use Rattle.sf_lifetimes.specs.Ledgers.{Places, LedgerView, is_live, has_birth}
 use Rattle.sf_stock.specs.declared.known.Known.{Known}
-use Rattle.sf_stock.specs.Stocks.{Stocked, StockView, stock_blocks}
+use Rattle.sf_stock.specs.Stocks.{Stocked, StockView, stock_blocks, listed_place}
 
 -- A copy of a content, where it is shared.
 abbrev pub copied_if : Bool → List ℕ → Option (List ℕ)
@@ -51,12 +53,20 @@ shared_entry e = if e.1.is_shared then Some (e.0, e.1.content) else None
 abbrev pub shared_in : KnownMap → Contents
 shared_in known = filter_map shared_entry known
 
--- A content has the print of its bytes, and stands in as many blocks as it takes, one or more, in maximal runs.
+-- A content has the print of its bytes, is no longer than one may be, and stands in as many blocks as it takes, one or more, in
+-- maximal runs.
 pub record IsKept (known : Known) (runs : List Run) : Type 0 where
   pub printed : known.print ≡ print_of known.content
   pub maximal : AreRuns runs
   pub count : length (blocks_in runs) ≡ blocks_of (length known.content)
+  pub size : length known.content ≤ CONTENT_BYTES
   pub some : 1 ≤ length (blocks_in runs)
+
+-- How a birth is listed that somebody holds: with these runs, or not at all.
+abbrev pub listed_if : ℕ → Known → Option (List Run) → List Place
+listed_if birth known None = []
+listed_if birth known (Some runs) =
+    listed_place (record { birth = birth; content = record { bytes = known.content; is_shared = known.is_shared }; blocks = blocks_in runs }) ∷ []
 
 -- A place that left has a block, and maximal runs.
 pub record IsWhole (place : BirthRuns) : Type 0 where
@@ -99,7 +109,8 @@ pub record AreBirths (ledger : LedgerView) (index : Contents) (known : KnownMap)
   pub live : (birth : ℕ) → is_live ledger.holdings birth ≡ true → is_some (value_for nat_cmp known birth) ≡ true
   pub indexed : index ≡ shared_in known
 
--- What holds of the blocks of a stock.
+-- What holds of the blocks of a stock: those of a birth are as they have to be, a place that left has some, and each block stands
+-- once.
 pub record AreBlocks (ledger : LedgerView) (known : KnownMap) (left : List BirthRuns) (parked : List Run) : Type 0 where
   pub kept : AllByRecursion (λ e. IsKept e.1 (runs_in ledger.places e.0)) known
   pub whole : AllByRecursion IsWhole left

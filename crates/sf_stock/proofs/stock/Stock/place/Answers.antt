@@ -1,6 +1,7 @@
 use Rattle.std.proofs.Common.{◌≡◌, ◌∙◌, ℕ, ◌+◌, ◌-◌, ◌<◌, ◌≤◌, ◌^◌, ◌++◌, ◌∷◌, [], length, map, Bool, true, false, cond, List, Option, Some, None, refl, sym, ap, subst, arith}
 use Rattle.std.specs.Prelude.{All, AllPairs, Contains, unwrap_or, is_some, ◌≢◌}
 use Rattle.std.specs.FinMap as fin
+use Rattle.sf_types.specs.declared.limits.TheConstants.{CONTENT_BYTES}
 use Rattle.sf_types.specs.Table.Parts.{Content}
 use Rattle.sf_types.specs.Space.BlockRuns.{blocks_in}
 use Rattle.sf_types.specs.Space.Contents.{blocks_of}
@@ -76,6 +77,7 @@ invariant_of-self c =
       printed = parts.ensures.sound.printed;
       maximal = parts.ensures.sound.maximal;
       count = ap (λ rs. length (blocks_in rs)) same ∙ place.count ∙ ap (λ (y : Content). blocks_of (length y.bytes)) (sym parts.ensures.content);
+      size = subst (λ (y : Content). length y.bytes ≤ CONTENT_BYTES) (sym parts.ensures.content) place.size;
       some = subst (λ rs. 1 ≤ length (blocks_in rs)) (sym same) place.some;
     } in
     subst (λ n. IsStock c.place_runs.new.ledger c.add_shared.new.index c.insert_within.new.self s.left s.parked (s.next + 1) (s.runs + n) (s.room - (1 + n))) (sym c.len-count.ensures)
