@@ -4,7 +4,7 @@ use Rattle.std.specs.Prelude.{T, is_some, filter, filter_map, unwrap_or, ◌==�
 use Rattle.std.specs.List.{AllByRecursion, cons_option, sum_by}
 use Rattle.std.specs.Ordering.{nat_cmp, eq_by_cmp, is_lt}
 use Rattle.std.specs.declared.cmp.Ordering.TheVariants.{Less}
-use Rattle.std.specs.Cmp.{nat_cmp_total, nat_cmp_is, unsigned_ties, ranked}
+use Rattle.std.specs.Cmp.{nat_cmp_total, nat_cmp_is, unsigned_ties}
 use Rattle.std.specs.FinMap as fin
 use Rattle.std.specs.FinMap.{nat_cmp-IsAntisymmetric, get-retain_keys}
 use Rattle.std.specs.FinMap.Entries.{is_sorted, below_all, find-where_key, is_sorted-where_key, same_entries}
@@ -20,8 +20,7 @@ use Rattle.sf_types.specs.Inside.Births.{IsBelowAll, IsRising}
 use Rattle.sf_types.specs.Rooms.{Roomy}
 use Rattle.sf_types.specs.Space.BlockRuns.{blocks_in}
 use Rattle.sf_types.specs.Space.Placings.{Placed, all_blocks}
-use Rattle.sf_types.proofs.BoolLemmas.{both, first, second, both_first}
-use Rattle.sf_types.proofs.NameMapLemmas.{ordering_less}
+use Rattle.sf_types.proofs.BoolLemmas.{both, both_first}
 use Rattle.sf_types.proofs.NumberLemmas.{same_number, not_same, other_number}
 use Rattle.sf_room_map.specs.Entries.{value_for}
 use Rattle.sf_room_map.proofs.EntryLemmas.{find_is}
@@ -29,6 +28,7 @@ use Rattle.sf_dedup.specs.Contents.{Contents}
 use Rattle.sf_shrink.specs.Plans.{placed_at}
 use Rattle.sf_lifetimes.specs.Ledgers.{Holdings, LedgerView, Places, has_birth, held_by, is_live, number_of_holders, unheld_births, unheld_places, with_births, with_holding}
 use Rattle.sf_lifetimes.proofs.LedgerLemmas.{holds, number_changes, holds_one}
+use Rattle.sf_lifetimes.proofs.ListingLemmas.{rising_keys}
 use Rattle.sf_stock.specs.declared.known.Known.{Known}
 use Rattle.sf_stock.specs.Stocks.{Stocked, places_of, has_left, with_holdings}
 use Rattle.sf_stock.specs.Inside.Keeps.{KnownMap, IsKept, IsWhole, IsStock, AreBirths, AreBlocks, runs_in, stocked_in, stock_in, shared_entry, shared_in, without_births, run_count}
@@ -275,14 +275,6 @@ module _ (g : ℕ → Bool) where
       ]
 
 -- ---- births whose last holder lets them go
-rising_below : {X : Type 0} (x : ℕ) (es : List (ℕ × X)) → T (below_all nat_cmp x es) → IsBelowAll x (map (λ e. e.0) es)
-rising_below x [] sorted = tt
-rising_below x (e ∷ es) sorted = (ranked x e.0 Less (sym (ordering_less (nat_cmp x e.0) (first _ _ sorted))), rising_below x es (second _ _ sorted))
-
-pub rising_keys : {X : Type 0} (es : List (ℕ × X)) → T (is_sorted nat_cmp es) → IsRising (map (λ e. e.0) es)
-rising_keys [] sorted = tt
-rising_keys (e ∷ es) sorted = (rising_below e.0 es (first _ _ sorted), rising_keys es (second _ _ sorted))
-
 below-filter : (p : ℕ → Bool) (x : ℕ) (bs : List ℕ) → IsBelowAll x bs → IsBelowAll x (filter p bs)
 below-filter p x [] below = tt
 below-filter p x (b ∷ bs) below =

@@ -7,3 +7,5 @@ pub mod LeaveLemmas
 pub mod ParkLemmas
 pub mod ReadLemmas
 pub mod ListLemmas
+pub mod ShiftLemmas
+pub mod SoundLemmas

@@ -27,7 +27,8 @@ use Rattle.sf_shrink.specs.Plans.{placed_at, blocks_of_places}
 use Rattle.sf_dedup.specs.Contents.{Contents}
 use Rattle.sf_lifetimes.specs.Ledgers.{LedgerView}
 use Rattle.sf_lifetimes.specs.Departures.{first_of}
-use Rattle.sf_lifetimes.proofs.CountLemmas.{few_numbers, below, once_below}
+use Rattle.sf_lifetimes.proofs.CountLemmas.{few_numbers, once_below}
+use Rattle.sf_lifetimes.proofs.ListingLemmas.{all_below}
 use Rattle.sf_stock.specs.Stocks.{places_of}
 use Rattle.sf_stock.specs.Inside.Keeps.{KnownMap, IsWhole, IsStock, AreBlocks, stocked_in, run_count}
 use Rattle.sf_stock.proofs.NewLemmas.{count_of, count-append}
@@ -193,17 +194,10 @@ by_first xs ys whole once moved sorted =
     ∙ sorted_by_first xs whole begin
 
 -- ---- a stock whose places that left are parked
-each_below : (n : ℕ) (xs : List ℕ) → ((x : ℕ) → count_of x xs ≤ cond (nat_lt x n) 1 0) → AllByRecursion (λ x. x < n) xs
-each_below n [] most = tt
-each_below n (x ∷ xs) most = (
-  below x n (omega (arith, most x, sum_by-cons (λ y. cond (x == y) 1 0) x xs, ap {B = ℕ} (λ b. cond b 1 0) (own_number x))),
-  each_below n xs (λ z. omega (arith, most z, sum_by-cons (λ y. cond (z == y) 1 0) x xs)),
-)
-
 each_place : (xs : List BirthRuns) → ((block : ℕ) → count_of block (blocks_of_places xs) ≤ cond (nat_lt block (2 ^ 32)) 1 0) → AllByRecursion (λ place. All (λ block. block < 2 ^ 32) (blocks_in place.runs)) xs
 each_place [] most = tt
 each_place (x ∷ xs) most = (
-  All-from_recursion (λ block. block < 2 ^ 32) (blocks_in x.runs) (each_below (2 ^ 32) (blocks_in x.runs) (λ block. omega (arith, most block, count-append block (blocks_in x.runs) (blocks_of_places xs)))),
+  All-from_recursion (λ block. block < 2 ^ 32) (blocks_in x.runs) (all_below (2 ^ 32) (blocks_in x.runs) (λ block. omega (arith, most block, count-append block (blocks_in x.runs) (blocks_of_places xs)))),
   each_place xs (λ block. omega (arith, most block, count-append block (blocks_in x.runs) (blocks_of_places xs))),
 )
 

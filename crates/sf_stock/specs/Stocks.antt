@@ -1,5 +1,5 @@
 -- What a store keeps of contents: who holds them, where they stand, and the blocks of those that left (our own, after VLDB 2008).
-use Rattle.std.specs.Prelude.{◌≡◌, ◌≢◌, ℕ, ◌+◌, ◌≤◌, ◌<◌, ◌^◌, Bool, not, ◌&&◌, ◌==◌, bytes_eq, List, [], ◌∷◌, ◌++◌, map, length, drop, find, All, AllPairs, Contains, Option}
+use Rattle.std.specs.Prelude.{◌≡◌, ◌≢◌, ℕ, ◌+◌, ◌≤◌, ◌<◌, ◌^◌, Bool, not, ◌&&◌, ◌==◌, bytes_eq, List, [], ◌∷◌, ◌++◌, map, length, drop, find, All, AllPairs, Contains, Option, true}
 use Rattle.std.specs.List.{filter, list_any}
 use Rattle.std.specs.Option.{option_map}
 use Rattle.std.specs.FinMap as fin
@@ -8,12 +8,15 @@ use Rattle.sf_types.specs.declared.holder.Holder.{Holder}
 use Rattle.sf_types.specs.declared.limits.TheConstants.{CONTENT_BYTES}
 use Rattle.sf_types.specs.declared.place.Place.{Place}
 use Rattle.sf_types.specs.declared.run.Run.{Run}
+use Rattle.sf_types.specs.Inside.Births.{IsRising}
 use Rattle.sf_types.specs.Table.Parts.{Content}
 use Rattle.sf_types.specs.Space.BlockRuns.{blocks_in}
 use Rattle.sf_types.specs.Space.Contents.{blocks_of}
 use Rattle.sf_types.specs.Space.Grants.{maximal_runs}
 use Rattle.sf_types.specs.Space.Placings.{Placed, all_blocks}
 use Rattle.sf_types.specs.Play.Blocks.{places_by_first}
+use Rattle.sf_shrink.specs.declared.shifts.Shift.{Shift}
+use Rattle.sf_shrink.specs.Plans.{blocks_of_shifts}
 use Rattle.sf_lifetimes.specs.Ledgers.{Holdings, with_births, without_holders, is_live}
 
 -- A birth that has a place: its content, and its blocks in the content's order.
@@ -128,3 +131,35 @@ freed_blocks stock holders = block_count (filter (λ x. has_left stock.holdings 
 -- The stock without its first parked blocks.
 abbrev pub without_ripe : StockView → ℕ → StockView
 without_ripe stock count = record stock { parked = drop count stock.parked }
+
+-- Births with the blocks of the runs to which they move.
+abbrev pub moved_by : List Stocked → List Shift → List Stocked
+moved_by [] shifts = []
+moved_by (x ∷ xs) [] = x ∷ xs
+moved_by (x ∷ xs) (shift ∷ shifts) = record x { blocks = blocks_in shift.to } ∷ moved_by xs shifts
+
+-- The stock whose contents have moved.
+abbrev pub with_shifts : StockView → List Shift → StockView
+with_shifts stock shifts = record stock { stocked = moved_by stock.stocked shifts }
+
+-- Shifts that a stock can take: somebody holds each birth that has a place, and no block is parked or waits to be; they name
+-- these births, rising, each with as many blocks as it has, in one run; and each block is below 2^32 and stands once.
+pub record AreShifts (stock : StockView) (shifts : List Shift) : Type 0 where
+  pub held : All (λ x. is_live stock.holdings x.birth ≡ true) stock.stocked
+  pub none_left : stock.left ≡ []
+  pub none_parked : stock.parked ≡ []
+  pub births : map {B = ℕ × ℕ} (λ shift. (shift.birth, length (blocks_in shift.to))) shifts ≡ map {B = ℕ × ℕ} (λ x. (x.birth, length x.blocks)) stock.stocked
+  pub one_run : All (λ shift. length shift.to ≡ 1) shifts
+  pub below : All (λ block. block < 2 ^ 32) (blocks_of_shifts shifts)
+  pub once : AllPairs (λ block other. block ≢ other) (blocks_of_shifts shifts)
+
+-- What holds of every stock: births rise, and each is below the next one; each birth that somebody holds has a place; each has as
+-- many blocks as its content takes, which is no longer than one may be; and all blocks are below 2^32 and stand once.
+pub record IsSound (stock : StockView) : Type 0 where
+  pub rising : IsRising (births_of stock.stocked)
+  pub before_next : All (λ x. x.birth < stock.next) stock.stocked
+  pub held : (birth : ℕ) → is_live stock.holdings birth ≡ true → is_stocked stock.stocked birth ≡ true
+  pub counts : All (λ x. length x.blocks ≡ blocks_of (length x.content.bytes)) stock.stocked
+  pub sizes : All (λ x. length x.content.bytes ≤ CONTENT_BYTES) stock.stocked
+  pub below : All (λ block. block < 2 ^ 32) (stock_blocks stock)
+  pub once : AllPairs (λ block other. block ≢ other) (stock_blocks stock)

@@ -6,7 +6,7 @@ ghost use Rattle.sf_types.specs.Rooms.{MakesRoom};
 ghost use Rattle.sf_types.specs.Space.BlockRuns.{blocks_in};
 ghost use Rattle.sf_dedup.specs.Prints.{print_of};
 ghost use Rattle.sf_lifetimes.specs.Ledgers.{held_by, freed_by};
-ghost use Rattle.sf_stock.specs.Stocks.{empty_stock, is_stocked, with_new, with_holder, with_left_parked, shared_birth, IsNewPlace, stocked_at, block_count, live_of, listed_place, without_ripe, freed_blocks};
+ghost use Rattle.sf_stock.specs.Stocks.{empty_stock, is_stocked, with_new, with_holder, with_left_parked, shared_birth, IsNewPlace, IsSound, stocked_at, block_count, live_of, listed_place, without_ripe, freed_blocks, AreShifts, with_shifts};
 
 use crate::known::Known;
 use crate::listing::list_places;
@@ -18,6 +18,7 @@ use sf_dedup::{Index, Print};
 use sf_free_commit::Committed;
 use sf_lifetimes::{GivenUp, Ledger, UnheldPlaces};
 use sf_room_map::RoomMap;
+use sf_shrink::ShiftList;
 use sf_types::{Births, Blob, Holder, Mem, OutOfMemory, PlaceList, Runs};
 use std::alloc::Global;
 use std::marker::Model;
@@ -177,6 +178,14 @@ impl Stock {
         self.index.find(print, content)
     }
 
+    /// The number that the next birth gets, and what holds of every stock.
+    pub fn next_birth(&self) -> u128
+        ensures next { result ≡ self.now.held.next }
+        ensures sound { IsSound self.now.held }
+    {
+        self.next
+    }
+
     /// The content of a birth that has a place, None exactly where it has none.
     pub fn content_of(&self, birth: u128) -> Option<&Blob>
         ensures { option_copied result ≡ option_map (λ x. x.content.bytes) (stocked_at self.now.held.stocked birth) }
@@ -241,5 +250,15 @@ impl Stock {
         ensures freed { (holders : List Holder) → freed_by result.ledger holders ≡ freed_blocks self.now.held holders }
     {
         self.ledger.give_up()
+    }
+
+    /// Moves all contents together, each to the one run of its shift. It takes no memory.
+    pub fn shift(&mut self, shifts: ShiftList)
+        requires { AreShifts self.old.held shifts }
+        ensures held { self.new.held ≡ with_shifts self.old.held shifts }
+        ensures spare { self.new.spare ≡ self.old.spare }
+    {
+        self.ledger.shift(shifts);
+        self.runs = self.known.len() as u64;
     }
 }
