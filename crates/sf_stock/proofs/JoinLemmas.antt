@@ -1,8 +1,9 @@
 -- Runs that are put together where they touch.
-use Rattle.std.proofs.Common.{◌≡◌, ℕ, ◌+◌, ◌≤◌, List, [], ◌∷◌, ◌++◌, sym, ap, ◌∙◌, append_assoc, arith}
+use Rattle.std.proofs.Common.{◌≡◌, ℕ, ◌+◌, ◌≤◌, List, [], ◌∷◌, ◌++◌, sym, ap, ◌∙◌, append_assoc, arith, length}
 use Rattle.std.specs.Prelude.{◌≢◌}
 use Rattle.std.proofs.lemmas.Grind.{flat_map-append}
-use Rattle.std.proofs.lemmas.List.{append-nil}
+use Rattle.std.proofs.lemmas.List.{append-nil, length-append}
+use Rattle.std.proofs.lemmas.List.FromFn.{length-range_with_len}
 use Rattle.sf_types.specs.declared.run.Run.{Run}
 use Rattle.sf_types.specs.Space.BlockRuns.{blocks_in, blocks_in_run, AreRuns}
 use Rattle.sf_types.proofs.RunLemmas.{range-split}
@@ -32,3 +33,9 @@ blocks_longer rs last run touches =
     ∙ ap (λ (bs : List ℕ). blocks_in rs ++ bs) (range-split last.first last.blocks run.blocks ∙ ap (λ n. blocks_in_run last ++ blocks_in_run (record { first = n; blocks = run.blocks })) touches)
     ∙ sym (append_assoc (blocks_in rs) (blocks_in_run last) (blocks_in_run run))
     ∙ ap (λ (bs : List ℕ). bs ++ blocks_in_run run) (sym (blocks_pushed rs last))
+
+-- maximal runs are no more than their blocks
+pub few_runs : (rs : List Run) → AreRuns rs → length rs ≤ length (blocks_in rs)
+few_runs [] are = omega arith
+few_runs (r ∷ []) are = omega (arith, are, length-append (blocks_in_run r) [], length-range_with_len r.first r.blocks)
+few_runs (r ∷ s ∷ rs) are = omega (arith, few_runs (s ∷ rs) are.2, are.0, length-append (blocks_in_run r) (blocks_in (s ∷ rs)), length-range_with_len r.first r.blocks)

@@ -1,5 +1,5 @@
 //! Contents that come.
-ghost use Rattle.std.specs.Prelude.{◌≡◌, ◌<◌, ◌^◌, length, IfOk};
+ghost use Rattle.std.specs.Prelude.{◌≡◌, ◌+◌, ◌<◌, ◌^◌, length, IfOk};
 ghost use Rattle.sf_dedup.specs.Prints.{print_of};
 ghost use Rattle.sf_types.specs.Space.BlockRuns.{blocks_in, AreRuns};
 ghost use Rattle.sf_stock.specs.Inside.Keeps.{copied_if, IsNewContent};
@@ -72,11 +72,11 @@ impl NewContent {
         })
     }
 
-    /// The number of runs.
-    pub fn run_count(&self) -> usize
-        ensures { result ≡ length self.now.runs }
+    /// The items of room that the content takes when it is placed: one for its birth, and one for each run.
+    pub fn item_count(&self) -> u64
+        ensures { result ≡ 1 + length self.now.runs }
     {
-        self.runs.len()
+        1 + self.runs.len() as u64
     }
 
     // What is known of the content, a copy of its bytes where it is shared, and its runs.

@@ -24,11 +24,12 @@ abbrev pub copied_if : Bool → List ℕ → Option (List ℕ)
 copied_if is_shared content = if is_shared then Some content else None
 
 -- What holds of a content that comes: the print is that of its bytes, a copy is there where it is shared, and the runs are
--- maximal.
+-- maximal, and fewer than there can be blocks.
 pub record IsNewContent (known : Known) (shared : Option (List ℕ)) (runs : List Run) : Type 0 where
   pub printed : known.print ≡ print_of known.content
   pub copied : shared ≡ copied_if known.is_shared known.content
   pub maximal : AreRuns runs
+  pub few : length runs < 2 ^ 32
 
 -- What is known of each birth that has a place.
 abbrev pub KnownMap : Type 0
