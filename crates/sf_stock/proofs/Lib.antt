@@ -4,8 +4,10 @@ pub mod EmptyLemmas
 pub mod NewLemmas
 pub mod ForgetLemmas
 pub mod LeaveLemmas
+pub mod SortLemmas
 pub mod ParkLemmas
 pub mod ReadLemmas
 pub mod ListLemmas
 pub mod ShiftLemmas
+pub mod SinceLemmas
 pub mod SoundLemmas

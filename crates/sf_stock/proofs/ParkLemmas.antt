@@ -1,28 +1,20 @@
 -- Places in the order of their first blocks.
-use Rattle.std.proofs.Common.{◌≡◌, ℕ, zero, suc, ◌+◌, ◌-◌, ◌<◌, ◌≤◌, ◌^◌, true, false, cond, List, [], ◌∷◌, ◌++◌, map, length, drop, get_or, refl, sym, ap, subst, ◌∙◌, arith}
+use Rattle.std.proofs.Common.{◌≡◌, ℕ, zero, suc, ◌+◌, ◌-◌, ◌<◌, ◌≤◌, ◌^◌, cond, List, [], ◌∷◌, ◌++◌, map, length, drop, get_or, refl, sym, ap, subst, ◌∙◌, arith}
 use Rattle.std.specs.Prelude.{nat_lt, slice_get, slice_index_or, All, ◌==◌}
-use Rattle.std.specs.List.{AllByRecursion, IsDistinct, range_with_len, sum_by}
+use Rattle.std.specs.List.{AllByRecursion, range_with_len, sum_by}
 use Rattle.std.specs.List.Sorted.{IsPermutation, IsSortedByKey}
 use Rattle.std.specs.Option.{option_map_or}
-use Rattle.std.specs.Ordering.{nat_cmp, eq_by_cmp, is_lt, match_ordering}
-use Rattle.std.specs.declared.cmp.Ordering.TheVariants.{Less, Equal, Greater}
-use Rattle.std.specs.Cmp.{nat_cmp_total, unsigned_ties}
-use Rattle.std.specs.FinMap.{nat_cmp-IsAntisymmetric}
-use Rattle.std.specs.BTreeMap.{insert_entry}
-use Rattle.std.specs.Map.{keys_of}
+use Rattle.std.specs.Ordering.{nat_cmp, is_lt}
 use Rattle.std.proofs.lemmas.List.{length-append, length-map, get_or-map}
-use Rattle.std.proofs.lemmas.List.Elements.{All-from_recursion}
-use Rattle.std.proofs.lemmas.List.Sorted.{IsPermutation-map, sum_by-IsPermutation}
+use Rattle.std.proofs.lemmas.List.Elements.{All-from_recursion, All-get_or}
+use Rattle.std.proofs.lemmas.List.Sorted.{All-permutation, IsPermutation-map, sum_by-IsPermutation}
 use Rattle.std.proofs.lemmas.List.Sums.{sum_by-cons, sum_by-take-drop}
 use Rattle.sf_types.specs.declared.birth_runs.BirthRuns.{BirthRuns}
 use Rattle.sf_types.specs.declared.run.Run.{Run}
 use Rattle.sf_types.specs.Rooms.{Roomy}
 use Rattle.sf_types.specs.Space.BlockRuns.{blocks_in, AreRuns}
 use Rattle.sf_types.specs.Space.Placings.{Placed, all_blocks}
-use Rattle.sf_types.specs.Play.Blocks.{first_block, with_place_by_first, places_by_first}
-use Rattle.sf_types.proofs.NumberLemmas.{same_number, own_number}
-use Rattle.sf_room_map.specs.Inside.Sorted.{sorted_entries}
-use Rattle.sf_room_map.proofs.HashedLemmas.{listed}
+use Rattle.sf_types.specs.Play.Blocks.{first_block, places_by_first}
 use Rattle.sf_shrink.specs.Plans.{placed_at, blocks_of_places}
 use Rattle.sf_dedup.specs.Contents.{Contents}
 use Rattle.sf_lifetimes.specs.Ledgers.{LedgerView}
@@ -32,6 +24,7 @@ use Rattle.sf_lifetimes.proofs.ListingLemmas.{all_below}
 use Rattle.sf_stock.specs.Stocks.{places_of}
 use Rattle.sf_stock.specs.Inside.Keeps.{KnownMap, IsWhole, IsStock, AreBlocks, stocked_in, run_count}
 use Rattle.sf_stock.proofs.NewLemmas.{count_of, count-append}
+use Rattle.sf_stock.proofs.SortLemmas.{firsts_apart, sorted_places}
 
 -- ---- the blocks of places, by their runs
 pub blocks_are : (xs : List BirthRuns) → all_blocks (map placed_at xs) ≡ blocks_of_places xs
@@ -65,133 +58,29 @@ first_is x whole = of_runs x.runs whole.maximal whole.some
     of_runs [] are some = absurd (omega (arith, some))
     of_runs (run ∷ rest) are some = sym (range_head run.first run.blocks (blocks_in rest) (some_run run rest are))
 
-range_counted : (first count : ℕ) (rest : List ℕ) → 1 ≤ count → 1 ≤ count_of first (range_with_len first count ++ rest)
-range_counted first zero rest some = absurd (omega (arith, some))
-range_counted first (suc count) rest some =
-    omega (arith, sum_by-cons (λ y. cond (first == y) 1 0) first (range_with_len (first + 1) count ++ rest), ap {B = ℕ} (λ t. cond t 1 0) (own_number first))
-
-first_counted : (x : BirthRuns) → IsWhole x → 1 ≤ times (first_of x) x
-first_counted x whole = of_runs x.runs whole.maximal whole.some
-  where
-    of_runs : (runs : List Run) → AreRuns runs → 1 ≤ length (blocks_in runs) → 1 ≤ count_of (option_map_or (λ run. run.first) (slice_get runs 0) 0) (blocks_in runs)
-    of_runs [] are some = absurd (omega (arith, some))
-    of_runs (run ∷ rest) are some = range_counted run.first run.blocks (blocks_in rest) (some_run run rest are)
-
--- ---- places that begin with different blocks
-abbrev pub Begin : List BirthRuns → Type 0
-Begin [] = Unit {0}
-Begin (x ∷ xs) = AllByRecursion (λ y. (first_of x == first_of y) ≡ false) xs × Begin xs
-
-other_firsts : (b : ℕ) (xs : List BirthRuns) → AllByRecursion IsWhole xs → count_of b (blocks_of_places xs) ≡ 0 → AllByRecursion (λ y. (b == first_of y) ≡ false) xs
-other_firsts b [] whole none = tt
-other_firsts b (x ∷ xs) whole none =
-    let parts = count-append b (blocks_in x.runs) (blocks_of_places xs) in (
-      elim (b == first_of x) as (λ t. (b == first_of x) ≡ t → t ≡ false) [
-        | true ↦ λ is. absurd (
-            let same : times b x ≡ times (first_of x) x = ap (λ n. times n x) (same_number b (first_of x) is) in
-            omega (arith, parts, none, same, first_counted x whole.0))
-        | false ↦ λ _. refl
-      ] refl,
-      other_firsts b xs whole.1 (omega (arith, parts, none)),
-    )
-
-pub begin_apart : (xs : List BirthRuns) → AllByRecursion IsWhole xs → ((block : ℕ) → count_of block (blocks_of_places xs) ≤ 1) → Begin xs
-begin_apart [] whole once = tt
-begin_apart (x ∷ xs) whole once = (
-  other_firsts (first_of x) xs whole.1 (omega (arith, count-append (first_of x) (blocks_in x.runs) (blocks_of_places xs), once (first_of x), first_counted x whole.0)),
-  begin_apart xs whole.1 (λ block. omega (arith, count-append block (blocks_in x.runs) (blocks_of_places xs), once block)),
-)
-
--- ---- entries by first blocks
-abbrev Keyed : Type 0
-Keyed = List (ℕ × BirthRuns)
-
-abbrev keyed : BirthRuns → ℕ × BirthRuns
-keyed = λ x. (first_of x, x)
-
-abbrev shown : ℕ × BirthRuns → Placed
-shown = λ e. placed_at e.1
-
-by_cmp : (k q : ℕ) → (k == q) ≡ false → nat_cmp k q ≡ cond (nat_lt k q) Less Greater
-by_cmp k q is = ap (λ t. cond (nat_lt k q) Less (cond t Equal Greater)) is
-
-each_put : (P : ℕ × BirthRuns → Type 0) (es : Keyed) (k : ℕ) (x : BirthRuns) → P (k, x) → AllByRecursion P es → AllByRecursion (λ e. (k == e.0) ≡ false) es → AllByRecursion P (insert_entry nat_cmp es k x)
-each_put P [] k x new all apart = (new, tt)
-each_put P (e ∷ es) k x new all apart =
-    let rest = each_put P es k x new all.1 apart.1 in
-    subst (λ r. AllByRecursion P (match_ordering r ((k, x) ∷ e ∷ es) ((e.0, x) ∷ es) (e ∷ insert_entry nat_cmp es k x))) (sym (by_cmp k e.0 apart.0))
-    (elim (nat_lt k e.0) as (λ t. AllByRecursion P (match_ordering (cond t Less Greater) ((k, x) ∷ e ∷ es) ((e.0, x) ∷ es) (e ∷ insert_entry nat_cmp es k x))) [
-      | true ↦ (new, all)
-      | false ↦ (all.0, rest)
-    ])
-
-put_by_first : (es : Keyed) (k : ℕ) (x : BirthRuns) → k ≡ first_block (placed_at x) → AllByRecursion (λ e. e.0 ≡ first_block (placed_at e.1)) es → AllByRecursion (λ e. (k == e.0) ≡ false) es
-    → map shown (insert_entry nat_cmp es k x) ≡ with_place_by_first (placed_at x) (map shown es)
-put_by_first [] k x own keys apart = refl
-put_by_first (e ∷ es) k x own keys apart =
-    let rest = put_by_first es k x own keys.1 apart.1 in
-    ap (λ r. map shown (match_ordering r ((k, x) ∷ e ∷ es) ((e.0, x) ∷ es) (e ∷ insert_entry nat_cmp es k x))) (by_cmp k e.0 apart.0)
-    ∙ elim (nat_lt k e.0) as (λ t. map shown (match_ordering (cond t Less Greater) ((k, x) ∷ e ∷ es) ((e.0, x) ∷ es) (e ∷ insert_entry nat_cmp es k x)) ≡ cond t (placed_at x ∷ map shown (e ∷ es)) (shown e ∷ with_place_by_first (placed_at x) (map shown es))) [
-      | true ↦ refl
-      | false ↦ ap (λ (ys : List Placed). shown e ∷ ys) rest
-    ]
-    ∙ (λ i. cond (nat_lt (own i) (keys.0 i)) (placed_at x ∷ map shown (e ∷ es)) (shown e ∷ with_place_by_first (placed_at x) (map shown es)))
-
-each_map : (P : ℕ × BirthRuns → Type 0) (xs : List BirthRuns) → AllByRecursion (λ x. P (keyed x)) xs → AllByRecursion P (map keyed xs)
-each_map P [] all = tt
-each_map P (x ∷ xs) all = (all.0, each_map P xs all.1)
-
-each_sorted : (P : ℕ × BirthRuns → Type 0) (xs : List BirthRuns) → Begin xs → AllByRecursion (λ x. P (keyed x)) xs → AllByRecursion P (sorted_entries nat_cmp (map keyed xs))
-each_sorted P [] begin all = tt
-each_sorted P (x ∷ xs) begin all =
-    each_put P (sorted_entries nat_cmp (map keyed xs)) (first_of x) x all.0 (each_sorted P xs begin.1 all.1) (each_sorted (λ e. (first_of x == e.0) ≡ false) xs begin.1 begin.0)
-
-each_first : (xs : List BirthRuns) → AllByRecursion IsWhole xs → AllByRecursion (λ x. first_of x ≡ first_block (placed_at x)) xs
-each_first [] whole = tt
-each_first (x ∷ xs) whole = (first_is x whole.0, each_first xs whole.1)
-
-sorted_by_first : (xs : List BirthRuns) → AllByRecursion IsWhole xs → Begin xs → map shown (sorted_entries nat_cmp (map keyed xs)) ≡ places_by_first (map placed_at xs)
-sorted_by_first [] whole begin = refl
-sorted_by_first (x ∷ xs) whole begin =
-    put_by_first (sorted_entries nat_cmp (map keyed xs)) (first_of x) x (first_is x whole.0)
-    (each_sorted (λ e. e.0 ≡ first_block (placed_at e.1)) xs begin.1 (each_first xs whole.1))
-    (each_sorted (λ e. (first_of x == e.0) ≡ false) xs begin.1 begin.0)
-    ∙ ap (with_place_by_first (placed_at x)) (sorted_by_first xs whole.1 begin.1)
-
-keys_are : (xs : List BirthRuns) → keys_of (map keyed xs) ≡ map first_of xs
-keys_are [] = refl
-keys_are (x ∷ xs) = ap (λ (ks : List ℕ). first_of x ∷ ks) (keys_are xs)
-
-distinct_keys : (xs : List BirthRuns) → Begin xs → IsDistinct (eq_by_cmp nat_cmp) (keys_of (map keyed xs))
-unfolding IsDistinct
-distinct_keys [] begin = tt
-distinct_keys (x ∷ xs) begin = (apart (first_of x) xs begin.0, distinct_keys xs begin.1)
-  where
-    apart : (k : ℕ) (xs : List BirthRuns) → AllByRecursion (λ y. (k == first_of y) ≡ false) xs → AllByRecursion (λ q. eq_by_cmp nat_cmp k q ≡ false) (keys_of (map keyed xs))
-    apart k [] all = tt
-    apart k (x ∷ xs) all = (sym (unsigned_ties k (first_of x)) ∙ all.0, apart k xs all.1)
-
-shown_again : (xs : List BirthRuns) → map shown (map keyed xs) ≡ map placed_at xs
-shown_again [] = refl
-shown_again (x ∷ xs) = ap (λ (ys : List Placed). placed_at x ∷ ys) (shown_again xs)
-
-adjacent : (ys : List BirthRuns) → IsSortedByKey first_of nat_cmp ys → (i d : ℕ) → i + 1 < length (keys_of (map keyed ys)) → is_lt (nat_cmp (get_or (keys_of (map keyed ys)) (i + 1) d) (get_or (keys_of (map keyed ys)) i d)) ≡ false
-adjacent [] sorted i d less = absurd (omega (arith, less))
-adjacent (y ∷ ys) sorted i d less =
-    let all = y ∷ ys in
-    let within : i + 1 < length all = omega (arith, less, ap length (keys_are all), length-map {B = ℕ} all first_of) in
-    ap (λ ks. is_lt (nat_cmp (get_or ks (i + 1) d) (get_or ks i d))) (keys_are all)
-    ∙ ap (λ k. is_lt (nat_cmp k (get_or (map first_of all) i d))) (get_or-map first_of all (i + 1) y d within)
-    ∙ ap (λ k. is_lt (nat_cmp (first_of (get_or all (i + 1) y)) k)) (get_or-map first_of all i y d (omega (arith, within)))
-    ∙ sorted i y (omega arith) within
-
 -- places in the order of their first blocks are those that the rule puts in that order
+pub each_filled : (xs : List BirthRuns) → AllByRecursion IsWhole xs → AllByRecursion (λ x. 1 ≤ length x.blocks) (map placed_at xs)
+each_filled [] whole = tt
+each_filled (x ∷ xs) whole = (whole.0.some, each_filled xs whole.1)
+
+sorted_blocks : (ys : List BirthRuns) → All IsWhole ys → IsSortedByKey first_of nat_cmp ys → IsSortedByKey first_block nat_cmp (map placed_at ys)
+sorted_blocks [] whole sorted k d low less = absurd (omega (arith, less))
+sorted_blocks (y ∷ ys) whole sorted k d low less =
+    let all = y ∷ ys in
+    let within : k + 1 < length all = omega (arith, less, length-map {B = Placed} all placed_at) in
+    let before : k < length all = omega (arith, within) in
+    ap (λ x. is_lt (nat_cmp (first_block x) (first_block (get_or (map placed_at all) k d)))) (get_or-map placed_at all (k + 1) y d within)
+    ∙ ap (λ x. is_lt (nat_cmp (first_block (placed_at (get_or all (k + 1) y))) (first_block x))) (get_or-map placed_at all k y d before)
+    ∙ ap (λ n. is_lt (nat_cmp n (first_block (placed_at (get_or all k y))))) (sym (first_is (get_or all (k + 1) y) (All-get_or IsWhole all (k + 1) y within whole)))
+    ∙ ap (λ n. is_lt (nat_cmp (first_of (get_or all (k + 1) y)) n)) (sym (first_is (get_or all k y) (All-get_or IsWhole all k y before whole)))
+    ∙ sorted k y low within
+
 pub by_first : (xs ys : List BirthRuns) → AllByRecursion IsWhole xs → ((block : ℕ) → count_of block (blocks_of_places xs) ≤ 1) → IsPermutation xs ys → IsSortedByKey first_of nat_cmp ys → map placed_at ys ≡ places_by_first (map placed_at xs)
 by_first xs ys whole once moved sorted =
-    let begin = begin_apart xs whole once in
-    sym (shown_again ys)
-    ∙ ap (map shown) (listed nat_cmp nat_cmp_total nat_cmp-IsAntisymmetric (map keyed xs) (map keyed ys) (distinct_keys xs begin) (IsPermutation-map keyed xs ys moved) (λ i d less. adjacent ys sorted i d less))
-    ∙ sorted_by_first xs whole begin
+    sorted_places (map placed_at xs) (map placed_at ys)
+    (firsts_apart (map placed_at xs) (each_filled xs whole) (λ block. omega (arith, once block, ap (count_of block) (blocks_are xs))))
+    (IsPermutation-map placed_at xs ys moved)
+    (sorted_blocks ys (All-permutation IsWhole xs ys moved (All-from_recursion IsWhole xs whole)) sorted)
 
 -- ---- a stock whose places that left are parked
 each_place : (xs : List BirthRuns) → ((block : ℕ) → count_of block (blocks_of_places xs) ≤ cond (nat_lt block (2 ^ 32)) 1 0) → AllByRecursion (λ place. All (λ block. block < 2 ^ 32) (blocks_in place.runs)) xs

@@ -9,12 +9,15 @@ use Rattle.sf_types.specs.declared.limits.TheConstants.{CONTENT_BYTES}
 use Rattle.sf_types.specs.declared.run.Run.{Run}
 use Rattle.sf_types.specs.Inside.Births.{IsRising}
 use Rattle.sf_types.specs.Space.Contents.{blocks_of}
+use Rattle.sf_types.specs.Space.Placings.{Placed}
+use Rattle.sf_shrink.specs.Plans.{placed_at}
 use Rattle.sf_dedup.specs.Contents.{Contents}
 use Rattle.sf_lifetimes.specs.Ledgers.{Places, LedgerView}
 use Rattle.sf_lifetimes.proofs.CountLemmas.{distinct, once_below}
 use Rattle.sf_lifetimes.proofs.ListingLemmas.{all_below, rising_keys}
 use Rattle.sf_stock.specs.Stocks.{Stocked, IsSound, births_of, stock_blocks}
 use Rattle.sf_stock.specs.Inside.Keeps.{KnownMap, AreBirths, AreBlocks, IsKept, runs_in, stocked_in, stock_in}
+use Rattle.sf_stock.proofs.ParkLemmas.{each_filled}
 use Rattle.sf_stock.proofs.KeptLemmas.{stocked_is}
 
 births_are : (places : Places) (known : KnownMap) → births_of (map (stocked_in places) known) ≡ map (λ e. e.0) known
@@ -42,6 +45,7 @@ sound l index known left parked next births blocks =
       held = λ b live. stocked_is l.places known b ∙ births.live b live;
       counts = All-from_recursion (λ (x : Stocked). length x.blocks ≡ blocks_of (length x.content.bytes)) (map (stocked_in l.places) known) (each_stocked (λ x. length x.blocks ≡ blocks_of (length x.content.bytes)) l.places known (counts_kept l.places known blocks.kept));
       sizes = All-from_recursion (λ (x : Stocked). length x.content.bytes ≤ CONTENT_BYTES) (map (stocked_in l.places) known) (each_stocked (λ x. length x.content.bytes ≤ CONTENT_BYTES) l.places known (sizes_kept l.places known blocks.kept));
+      filled = All-from_recursion (λ (x : Placed). 1 ≤ length x.blocks) (map placed_at left) (each_filled left blocks.whole);
       below = All-from_recursion (λ block. block < 2 ^ 32) all (all_below (2 ^ 32) all blocks.once);
       once = AllPairs-from_IsDistinct unsigned_Decides all (distinct all (λ x. omega (arith, blocks.once x, once_below x (2 ^ 32))));
     }

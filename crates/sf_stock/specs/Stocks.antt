@@ -59,11 +59,15 @@ places_of stocked = map place_of stocked
 abbrev pub is_stocked : List Stocked → ℕ → Bool
 is_stocked stocked birth = list_any (λ x. birth == x.birth) stocked
 
+-- The next birth, with a new content.
+abbrev pub newcomer : StockView → NewContentView → Stocked
+newcomer stock new = record { birth = stock.next; content = new.content; blocks = blocks_in new.runs }
+
 -- The stock with a new content, which gets the next birth and which nobody holds yet.
 abbrev pub with_new : StockView → NewContentView → StockView
 with_new stock new = record stock {
   next = stock.next + 1;
-  stocked = stock.stocked ++ record { birth = stock.next; content = new.content; blocks = blocks_in new.runs } ∷ [];
+  stocked = stock.stocked ++ newcomer stock new ∷ [];
 }
 
 -- Whether a birth was held and isn't any more.
@@ -154,12 +158,14 @@ pub record AreShifts (stock : StockView) (shifts : List Shift) : Type 0 where
   pub once : AllPairs (λ block other. block ≢ other) (blocks_of_shifts shifts)
 
 -- What holds of every stock: births rise, and each is below the next one; each birth that somebody holds has a place; each has as
--- many blocks as its content takes, which is no longer than one may be; and all blocks are below 2^32 and stand once.
+-- many blocks as its content takes, which is no longer than one may be; what left has a block; and all blocks are below 2^32 and
+-- stand once.
 pub record IsSound (stock : StockView) : Type 0 where
   pub rising : IsRising (births_of stock.stocked)
   pub before_next : All (λ x. x.birth < stock.next) stock.stocked
   pub held : (birth : ℕ) → is_live stock.holdings birth ≡ true → is_stocked stock.stocked birth ≡ true
   pub counts : All (λ x. length x.blocks ≡ blocks_of (length x.content.bytes)) stock.stocked
   pub sizes : All (λ x. length x.content.bytes ≤ CONTENT_BYTES) stock.stocked
+  pub filled : All (λ x. 1 ≤ length x.blocks) stock.left
   pub below : All (λ block. block < 2 ^ 32) (stock_blocks stock)
   pub once : AllPairs (λ block other. block ≢ other) (stock_blocks stock)

@@ -3,6 +3,7 @@
 
 mod joining;
 mod known;
+pub mod laws;
 mod listing;
 mod new_content;
 mod parts;
