@@ -68,9 +68,10 @@ impl Committed {
         self.parked
     }
 
-    /// The number of runs in which the parked blocks stand.
+    /// The number of runs in which the parked blocks stand, a block or more in each.
     pub fn run_count(&self) -> usize
-        ensures { result ≡ length self.now.held }
+        ensures count { result ≡ length self.now.held }
+        ensures few { result ≤ length (blocks_in self.now.held) }
     {
         self.queue.len()
     }
@@ -85,14 +86,26 @@ impl Committed {
         ensures blocks { OnOk result (blocks_in self.new.held ≡ blocks_in self.old.held ++ blocks_in runs.now.held) }
         ensures room { GrowsWithin self.old self.new (length (runs_with_blocks runs.now.held)) (length (runs_with_blocks runs.now.held)) result }
     {
-        self.queue.make_room(count_with_blocks(runs.as_slice()))?;
-        for run in runs.as_slice() {
+        self.make_room(count_with_blocks(runs.as_slice()) as u64)?;
+        self.park_within(runs.as_slice());
+        Ok(())
+    }
+
+    /// Parks the blocks of some runs as `park` does, where there is room for them. It takes no memory.
+    pub fn park_within(&mut self, runs: &[Run])
+        requires numbers { All (λ block. block ≤ GREATEST_BLOCK) (blocks_in runs.now) }
+        requires few { length (blocks_in self.old.held) + length (blocks_in runs.now) < 2 ^ 64 }
+        requires room { length (runs_with_blocks runs.now) ≤ self.old.spare }
+        ensures runs { self.new.held ≡ self.old.held ++ runs_with_blocks runs.now }
+        ensures blocks { blocks_in self.new.held ≡ blocks_in self.old.held ++ blocks_in runs.now }
+        ensures spare { self.old.spare ≤ self.new.spare + length (runs_with_blocks runs.now) }
+    {
+        for run in runs {
             if run.blocks > 0 {
                 self.queue.push_within(*run);
                 self.parked += u64::from(run.blocks);
             }
         }
-        Ok(())
     }
 
     /// Takes the first `max` parked blocks, or all where there are fewer, and puts their runs behind those of `into`, in

@@ -1,5 +1,5 @@
 //! A queue of runs.
-ghost use Rattle.std.specs.Prelude.{◌≡◌, ◌+◌, ◌≤◌, ◌++◌, ◌∷◌, [], length};
+ghost use Rattle.std.specs.Prelude.{◌≡◌, ◌+◌, ◌≤◌, ◌++◌, ◌∷◌, [], length, All};
 ghost use Rattle.sf_types.specs.Rooms.{MakesRoom};
 ghost use Rattle.sf_free_commit.specs.Batches.{IsParkable, LeavesFirst};
 
@@ -52,7 +52,8 @@ impl RunQueue {
 
     // The number of runs.
     pub fn len(&self) -> usize
-        ensures { result ≡ length self.now.held }
+        ensures len { result ≡ length self.now.held }
+        ensures parkable { All IsParkable self.now.held }
     {
         self.runs.len()
     }

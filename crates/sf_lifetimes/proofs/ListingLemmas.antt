@@ -67,7 +67,7 @@ times_in m block =
     omega (arith, split_times block (fin.values m), live, waiting, named_in_all block (fin.values (live_places_in m)), named_in_all block (fin.values (waiting_places_in m)))
 
 -- ---- numbers that stand once each below a bound
-all_below : (n : ℕ) (xs : List ℕ) → ((x : ℕ) → count_by (λ y. x == y) xs ≤ cond (nat_lt x n) 1 0) → AllByRecursion (λ x. x < n) xs
+pub all_below : (n : ℕ) (xs : List ℕ) → ((x : ℕ) → count_by (λ y. x == y) xs ≤ cond (nat_lt x n) 1 0) → AllByRecursion (λ x. x < n) xs
 all_below n [] most = tt
 all_below n (x ∷ xs) most = (
   below x n (omega (arith, most x, sum_by-cons (λ y. cond (x == y) 1 0) x xs, ap {B = ℕ} (λ b. cond b 1 0) (own_number x))),
@@ -79,7 +79,7 @@ rising_below : {X : Type 0} (x : ℕ) (es : List (ℕ × X)) → T (below_all na
 rising_below x [] sorted = tt
 rising_below x (e ∷ es) sorted = (ranked x e.0 Less (sym (ordering_less (nat_cmp x e.0) (first _ _ sorted))), rising_below x es (second _ _ sorted))
 
-rising_keys : {X : Type 0} (es : List (ℕ × X)) → T (is_sorted nat_cmp es) → IsRising (map (λ e. e.0) es)
+pub rising_keys : {X : Type 0} (es : List (ℕ × X)) → T (is_sorted nat_cmp es) → IsRising (map (λ e. e.0) es)
 rising_keys [] sorted = tt
 rising_keys (e ∷ es) sorted = (rising_below e.0 es (first _ _ sorted), rising_keys es (second _ _ sorted))
 

@@ -1,6 +1,6 @@
 -- What is freed as holders are counted off.
-use Rattle.std.proofs.Common.{◌≡◌, ℕ, zero, suc, ◌+◌, ◌-◌, ◌≤◌, ◌<◌, true, false, cond, List, [], ◌∷◌, length, take, get_or, Option, Some, None, refl, sym, ap, subst, ◌∙◌, arith}
-use Rattle.std.specs.Prelude.{◌==◌, ◌||◌, ◌≢◌, not, AllPairs}
+use Rattle.std.proofs.Common.{◌≡◌, ℕ, zero, suc, ◌+◌, ◌-◌, ◌≤◌, ◌<◌, true, false, cond, nat_lt, List, [], ◌∷◌, ◌++◌, length, take, get_or, Option, Some, None, refl, sym, ap, subst, ◌∙◌, arith}
+use Rattle.std.specs.Prelude.{◌==◌, ◌||◌, ◌≢◌, not, All, AllPairs}
 use Rattle.std.specs.List.{AllByRecursion}
 use Rattle.std.specs.Ordering.{nat_cmp, eq_by_cmp}
 use Rattle.std.specs.Option.{unwrap_or}
@@ -9,7 +9,8 @@ use Rattle.std.specs.FinMap as fin
 use Rattle.std.specs.FinMap.{nat_cmp-IsAntisymmetric, entries, entries_sorted, get-entries, get-remove, get-retain_keys}
 use Rattle.std.proofs.lemmas.Bool.Decides.{nat_tests}
 use Rattle.std.proofs.lemmas.List.Elements.{recursion_from_All}
-use Rattle.std.proofs.lemmas.List.Sums.{sum_by-cons, sum_by_more, sum_by-take-le}
+use Rattle.std.proofs.lemmas.List.Quantifiers.{all_pairs_push}
+use Rattle.std.proofs.lemmas.List.Sums.{sum_by-append, sum_by-cons, sum_by_more, sum_by-take-le}
 use Rattle.sf_types.specs.declared.holder.Holder.{Holder}
 use Rattle.sf_types.specs.Inside.Holders.{holder_cmp, holder_cmp_total, holder_cmp-IsAntisymmetric}
 use Rattle.sf_types.specs.Space.BlockRuns.{blocks_in}
@@ -170,3 +171,35 @@ freed_is t m h holders counted once is =
     ∙ freed_point (fin.get m q) (number_among h holders q) (number_of_holders q others) (among_and_others h holders q once ∙ sym (counted q))
     ∙ ap (λ x. weight size (cond (not (is_live others q)) x None)) (sym (get_live m q) ∙ ap (λ places. fin.get places q) (live_is m h counted))
     ∙ ap (weight size) (sym (get-retain_keys live (λ b. not (is_live others b)) q (λ x same. ap (λ b. not (is_live others b)) (sym (nat_cmp-IsAntisymmetric q x same))))))
+
+-- ---- the holders of a birth that are left
+pub others_left : (x : Option Counted) (a others : ℕ) → a + others ≡ holders_in x → left_of (tally_of x a) (holders_in x) ≡ others
+others_left x a others both =
+    elim (a == 0) as (λ t. (a == 0) ≡ t → left_of (cond t None (Some (record { left = holders_in x - a; blocks = length (blocks_in (runs_in x)) }))) (holders_in x) ≡ others) [
+      | true ↦ λ is. let none : a ≡ 0 = same_number a 0 is in omega (arith, none, both)
+      | false ↦ λ _. omega (arith, both)
+    ] refl
+
+pub some_number : (n : ℕ) → nat_lt 0 n ≡ not (n == 0)
+some_number zero = refl
+some_number (suc n) = grind (arith, nat_tests)
+
+-- ---- one holder more is given up
+pub given_more : (h : Holdings) (holders : List Holder) (d : Holder) (x : Option Counted) (q : ℕ) (t u : Option Tally) → t ≡ tally_of x (number_among h holders q) → u ≡ cond (has_birth (held_by h d) q) (counted_off x t) t
+    → u ≡ tally_of x (number_among h (holders ++ d ∷ []) q)
+given_more h holders d x q t u before now =
+    let a = number_among h holders q in
+    now
+    ∙ ap (λ y. cond (has_birth (held_by h d) q) (counted_off x y) y) before
+    ∙ elim (has_birth (held_by h d) q) as (λ b. cond b (counted_off x (tally_of x a)) (tally_of x a) ≡ tally_of x (a + cond b 1 0)) [
+      | true ↦ off_more x a
+      | false ↦ let same : a ≡ a + 0 = omega arith in ap (tally_of x) same
+    ]
+    ∙ (let sum : a + cond (has_birth (held_by h d) q) 1 0 ≡ number_among h (holders ++ d ∷ []) q = omega (arith, sum_by-append (λ holder. cond (has_birth (held_by h holder) q) 1 0) holders (d ∷ [])) in ap (tally_of x) sum)
+
+pub given_once : (holders : List Holder) (d : Holder) → AllPairs (λ a b. a ≢ b) holders → All (λ other. other ≢ d) holders → AllPairs (λ a b. a ≢ b) (holders ++ d ∷ [])
+given_once holders d once new = all_pairs_push (λ a b. a ≢ b) holders d once new
+
+pub given_few : (h : Holdings) (holders : List Holder) (d : Holder) (q : ℕ) → AllPairs (λ a b. a ≢ b) (holders ++ d ∷ []) → number_among h holders q + cond (has_birth (held_by h d) q) 1 0 ≤ number_of_holders q h
+given_few h holders d q once =
+    omega (arith, among_and_others h (holders ++ d ∷ []) q once, sum_by-append (λ holder. cond (has_birth (held_by h holder) q) 1 0) holders (d ∷ []))

@@ -1,5 +1,5 @@
 -- The places of births and the births of holders (our own).
-use Rattle.std.specs.Prelude.{◌≢◌, ℕ, ◌<◌, ◌^◌, Bool, not, ◌==◌, List, [], ◌∷◌, map, length, flat_map, All, AllPairs, Contains, Option}
+use Rattle.std.specs.Prelude.{◌≢◌, ℕ, ◌<◌, ◌^◌, Bool, not, ◌==◌, List, [], ◌∷◌, ◌++◌, map, length, flat_map, All, AllPairs, Contains, Option}
 use Rattle.std.specs.List.{list_any, sum_by, count_by, filter}
 use Rattle.std.specs.Option.{unwrap_or}
 use Rattle.std.specs.Ordering.{nat_cmp}
@@ -105,3 +105,12 @@ without_holders holdings (h ∷ hs) = fin.remove (without_holders holdings hs) h
 abbrev pub freed_by : LedgerView → List Holder → ℕ
 freed_by ledger holders =
     number_of_blocks (fin.retain_keys (live_places ledger) (λ b. not (is_live (without_holders ledger.holdings holders) b)))
+
+-- Holders that are given up, of what a ledger holds.
+pub record GivenUpView : Type 0 where
+  pub ledger : LedgerView
+  pub holders : List Holder
+
+-- One holder more is given up.
+abbrev pub with_given_up : GivenUpView → Holder → GivenUpView
+with_given_up given holder = record given { holders = given.holders ++ holder ∷ [] }

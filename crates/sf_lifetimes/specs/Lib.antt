@@ -1,3 +1,4 @@
+pub mod Departures
 pub mod Ledgers
 pub mod Shifts
 pub mod Inside

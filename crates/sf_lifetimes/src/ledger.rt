@@ -2,15 +2,17 @@
 ghost use Rattle.std.specs.Prelude.{◌≡◌, ◌≢◌, ◌-◌, ◌≤◌, ◌^◌, ◌++◌, [], length, map, All, AllPairs, None, IsSome, is_some, IfOk, OnOk};
 ghost use Rattle.std.specs.Option.{option_copied};
 ghost use Rattle.std.specs.FinMap as fin;
+ghost use Rattle.sf_types.specs.Inside.Births.{IsRising};
 ghost use Rattle.sf_types.specs.Rooms.{MakesRoom, GrowsWithin, MovesWithin};
 ghost use Rattle.sf_shrink.specs.Plans.{ArePlaced};
 ghost use Rattle.sf_lifetimes.specs.Ledgers.{number_of_holders, is_live, live_places, waiting_places, place_of, listed_places, live_blocks, IsNewPlace, held_by, unheld_births, with_holding, unheld_places, freed_by};
 ghost use Rattle.sf_lifetimes.specs.Shifts.{AreSafeShifts};
 
+use crate::given_up::GivenUp;
 use crate::holding_map::HoldingMap;
 use crate::place_map::PlaceMap;
-pub use crate::place_map::UnheldPlaces;
-use crate::tally::freed_blocks;
+use crate::tally::{TallyMap, freed_blocks};
+use crate::unheld_places::UnheldPlaces;
 use sf_shrink::ShiftList;
 use sf_types::{BirthRunsList, Births, ContentRuns, Holder, HolderList, Mem};
 use std::alloc::Global;
@@ -89,6 +91,14 @@ impl Ledger {
         self.places.runs_of(birth)
     }
 
+    /// The births of a holder, rising, none where it holds nothing.
+    pub fn births_of(&self, holder: &Holder) -> &[u128]
+        ensures births { result.now ≡ held_by self.now.held.holdings holder.now }
+        ensures rising { IsRising result.now }
+    {
+        self.holdings.births_of(holder)
+    }
+
     /// The live births with copies of their places, in rising order.
     pub fn places(&self) -> Mem<BirthRunsList>
         ensures places { IfOk result (λ places. places ≡ listed_places self.now.held) }
@@ -165,6 +175,19 @@ impl Ledger {
             &self.holdings,
             holders.as_slice(),
         )
+    }
+
+    /// No holder given up yet. It takes no memory.
+    pub fn give_up(&self) -> GivenUp<'_>
+        ensures ledger { result.ledger ≡ self.now.held }
+        ensures holders { result.holders ≡ [] }
+    {
+        GivenUp {
+            places: &self.places,
+            holdings: &self.holdings,
+            holders: Vec::new(self.alloc),
+            tally: TallyMap::new(self.alloc),
+        }
     }
 
     /// Gives each live birth its new place. The shifts name the live births, each once and rising, each with as many blocks

@@ -14,14 +14,12 @@ ghost use Rattle.sf_lifetimes.specs.Inside.Counts.{live_sum, holders_in, runs_in
 
 use crate::counted::{Counted, NewRuns, OneFewer, OneMore, runs_if_held};
 use crate::rising::{place_from, stands_at};
+use crate::unheld_places::UnheldPlaces;
 use sf_room_map::RoomMap;
 use sf_shrink::{Shift, ShiftList};
-use sf_types::{BirthRuns, BirthRunsList, ContentRuns, List, Mem, RoomList, TryCopy};
+use sf_types::{BirthRuns, BirthRunsList, ContentRuns, List, Mem, TryCopy};
 use std::alloc::Global;
 use std::marker::Model;
-
-/// Births that nobody holds any more with their places, and room for more.
-pub type UnheldPlaces = RoomList<BirthRuns>;
 
 // The number of blocks of a birth's place, none where it has no place.
 fn blocks_at(entries: &RoomMap<u128, Counted>, birth: u128) -> u64

@@ -54,7 +54,7 @@ fn blocks_if_none(left: u64, blocks: u64) -> u64
 
 impl TallyMap {
     // Nothing counted off.
-    fn new(alloc: Global) -> TallyMap
+    pub fn new(alloc: Global) -> TallyMap
         ensures { result ≡ fin.empty }
     {
         TallyMap {
@@ -64,14 +64,14 @@ impl TallyMap {
     }
 
     // The number of blocks of the births of which no holder is left.
-    fn freed(&self) -> u64
+    pub fn freed(&self) -> u64
         ensures { result ≡ freed_sum self.now }
     {
         self.freed
     }
 
     // The number of holders of a birth that are left, out of so many.
-    fn left(&self, birth: u128, holders: u64) -> u64
+    pub fn left(&self, birth: u128, holders: u64) -> u64
         ensures { result ≡ left_of (fin.get self.now birth) holders }
     {
         match self.entries.get(&birth) {
@@ -96,7 +96,7 @@ impl TallyMap {
 }
 
 // Counts one holder of each of some births off.
-fn count_births(tally: &mut TallyMap, places: &PlaceMap, births: &[u128]) -> Mem<()>
+pub fn count_births(tally: &mut TallyMap, places: &PlaceMap, births: &[u128]) -> Mem<()>
     requires rising { IsRising births.now }
     requires held { AreHeld places.now.held births.now }
     requires left { (b : ℕ) → has_birth births.now b ≡ true → 1 ≤ left_of (fin.get tally.old b) (holders_in (fin.get places.now.held b)) }

@@ -1,5 +1,4 @@
-use Rattle.std.proofs.Common.{◌≡◌, ℕ, ◌+◌, ◌-◌, ◌≤◌, List, [], ◌∷◌, ◌++◌, length, take, get_or, sym, ap, ◌∙◌, append_assoc, rules, arith}
-use Rattle.std.specs.Prelude.{All}
+use Rattle.std.proofs.Common.{◌≡◌, ℕ, ◌+◌, ◌-◌, ◌≤◌, List, [], ◌∷◌, ◌++◌, length, take, get_or, sym, ap, ◌∙◌, append_assoc, arith}
 use Rattle.std.proofs.lemmas.Grind.{flat_map-append}
 use Rattle.std.proofs.lemmas.List.{length-append, take_all}
 use Rattle.std.proofs.lemmas.List.FromFn.{length-range_with_len}
@@ -8,41 +7,37 @@ use Rattle.sf_types.specs.Space.BlockRuns.{blocks_in, blocks_in_run}
 use Rattle.sf_types.proofs.RunLemmas.{no_run, of-block, push-blocks, next-blocks, next-count}
 use Rattle.sf_free_commit.specs.Batches.{runs_with_blocks}
 use Rattle.sf_free_commit.proofs.ParkLemmas.{next-with-blocks, next-without, first-few, blocks-with-blocks}
-use Rattle.sf_free_commit.proofs.committed.Committed.park.Goals.{then-run-gt0, else-run-gt0}
-use Rattle.sf_free_commit.proofs.committed.Committed.park.Goals as goal
+use Rattle.sf_free_commit.proofs.committed.Committed.park_within.Goals.{then-run-gt0, else-run-gt0}
+use Rattle.sf_free_commit.proofs.committed.Committed.park_within.Goals as goal
 
 pub push_within-requires-clause-room : goal.push_within-requires-clause-room
 push_within-requires-clause-room c =
-    let runs = c.as_slice-run-items.result.now in
+    let runs = c.args.runs.now in
     let k = c.loop-run.run-index in
     let next = next-with-blocks runs k c.loop-run-test.true c.if-run-gt0.true in
-    let counted : c.count_with_blocks.result ≡ length (runs_with_blocks runs) = search rules in
-    omega (arith, c.loop-run.invariant.room, c.in_ok-make_room.ensures.room, counted, ap length next, length-append (runs_with_blocks (take k runs)) (get_or runs k no_run ∷ []), first-few runs (k + 1))
+    omega (arith, c.loop-run.invariant.room, c.requires.room, ap (λ v. v.spare) c.self.view_is, ap length next, length-append (runs_with_blocks (take k runs)) (get_or runs k no_run ∷ []), first-few runs (k + 1))
 
 pub push_within-requires-clause-run : goal.push_within-requires-clause-run
 push_within-requires-clause-run c =
-    let runs = c.as_slice-run-items.result.now in
+    let runs = c.args.runs.now in
     let k = c.loop-run.run-index in
     let run = get_or runs k no_run in
-    let numbers : All (λ block. block ≤ 4294967295) (blocks_in runs) = search rules in
-    let last = of-block (λ block. block ≤ 4294967295) runs k (run.first + (run.blocks - 1)) c.loop-run-test.true (omega arith) (omega (arith, c.if-run-gt0.true)) numbers in
+    let last = of-block (λ block. block ≤ 4294967295) runs k (run.first + (run.blocks - 1)) c.loop-run-test.true (omega arith) (omega (arith, c.if-run-gt0.true)) c.requires.numbers in
     (omega (arith, c.if-run-gt0.true), omega (arith, last, c.if-run-gt0.true))
 
 pub overflow_add-self : goal.overflow_add-self
 overflow_add-self c =
-    let runs = c.as_slice-run-items.result.now in
+    let runs = c.args.runs.now in
     let old = c.loop-run.invariant in
-    let all : length (blocks_in c.args.runs.now.held) ≡ length (blocks_in runs) = search rules in
-    let first : length (blocks_in c.make_room.new.self.held) ≡ length (blocks_in c.args.self.now.held) = search rules in
-    omega (arith, old.count, old.blocks, c.from.ensures, next-count runs c.loop-run.run-index c.loop-run-test.true, all, first, c.requires.few)
+    omega (arith, old.count, old.blocks, c.from.ensures, next-count runs c.loop-run.run-index c.loop-run-test.true, ap (λ v. length (blocks_in v.held)) c.self.view_is, c.requires.few)
 
 pub loop-run-preserved : goal.loop-run-preserved
 loop-run-preserved c =
-    let runs = c.as_slice-run-items.result.now in
+    let runs = c.args.runs.now in
     let k = c.loop-run.run-index in
     let run = get_or runs k no_run in
     let old = c.loop-run.invariant in
-    let first = c.make_room.new.self.held in
+    let first = c.self.inside.queue.held in
     let parked = runs_with_blocks (take k runs) in
     let held = c.loop-run.self-inside.queue.held in
     let blocks = next-blocks runs k c.loop-run-test.true in
@@ -74,15 +69,11 @@ loop-run-preserved c =
 pub returns-clause-blocks : goal.returns-clause-blocks
 returns-clause-blocks c =
     let old = c.args.self.now.held in
-    let given = c.args.runs.now.held in
-    let runs = c.as_slice-run-items.result.now in
-    let first = c.make_room.new.self.held in
-    let same : runs ≡ given = search rules in
-    let kept : first ≡ old = search rules in
-    let is : c.loop-run.self-inside.queue.held ≡ old ++ runs_with_blocks given =
+    let runs = c.args.runs.now in
+    let is : c.loop-run.self-inside.queue.held ≡ old ++ runs_with_blocks runs =
     c.loop-run.invariant.runs
-    ∙ ap (λ (xs : List Run). first ++ runs_with_blocks xs) (take_all c.loop-run.run-index runs c.loop-run-test.false ∙ same)
-    ∙ ap (λ (xs : List Run). xs ++ runs_with_blocks given) kept in
+    ∙ ap (λ (xs : List Run). c.self.inside.queue.held ++ runs_with_blocks xs) (take_all c.loop-run.run-index runs c.loop-run-test.false)
+    ∙ ap (λ v. v.held ++ runs_with_blocks runs) c.self.view_is in
     ap blocks_in is
-    ∙ flat_map-append blocks_in_run old (runs_with_blocks given)
-    ∙ ap (λ (xs : List ℕ). blocks_in old ++ xs) (blocks-with-blocks given)
+    ∙ flat_map-append blocks_in_run old (runs_with_blocks runs)
+    ∙ ap (λ (xs : List ℕ). blocks_in old ++ xs) (blocks-with-blocks runs)

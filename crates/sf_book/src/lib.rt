@@ -1,0 +1,2 @@
+//! What the Book is seen as, what its calls ask and do, and what its fields keep of the store's half. Definitions, and no code yet.
+#![tactic(auto)]

@@ -1,0 +1,13 @@
+pub mod JoinLemmas
+pub mod KeptLemmas
+pub mod EmptyLemmas
+pub mod NewLemmas
+pub mod ForgetLemmas
+pub mod LeaveLemmas
+pub mod SortLemmas
+pub mod ParkLemmas
+pub mod ReadLemmas
+pub mod ListLemmas
+pub mod ShiftLemmas
+pub mod SinceLemmas
+pub mod SoundLemmas

@@ -1,0 +1,3 @@
+-- Words that serve the stock's own clauses and proofs.
+pub mod Codes
+pub mod Keeps
