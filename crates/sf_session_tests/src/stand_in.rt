@@ -84,15 +84,30 @@ fn end_by_answer(alloc: Global, core: &mut SessionCore, told: Told) -> Mem<Reply
     }
 }
 
-/// Makes the call that a text spells.
-pub fn make(alloc: Global, core: &mut SessionCore, text: &[u8], told: Told) -> Mem<Reply> {
+// The call that a text spells begins to stand.
+fn start_call(alloc: Global, core: &mut SessionCore, text: &[u8]) -> Mem<()> {
     let Need::Idle = core.next() else {
         return Err(OutOfMemory);
     };
-    core.start(call_of(alloc, text)?)?;
+    core.start(call_of(alloc, text)?)
+}
+
+// Ends the standing call by itself where it is local, and else by the store's answer.
+fn end_standing(alloc: Global, core: &mut SessionCore, told: Told) -> Mem<Reply> {
     match core.next() {
         Need::Local => core.local(),
         _ => end_by_answer(alloc, core, told),
+    }
+}
+
+/// Makes the call that a text spells. A step for which memory is wanted once is tried again, since it leaves the core as before.
+pub fn make(alloc: Global, core: &mut SessionCore, text: &[u8], told: Told) -> Mem<Reply> {
+    if start_call(alloc, core, text).is_err() {
+        start_call(alloc, core, text)?;
+    }
+    match end_standing(alloc, core, told) {
+        Ok(reply) => Ok(reply),
+        Err(_) => end_standing(alloc, core, told),
     }
 }
 
@@ -106,24 +121,20 @@ fn word_of(fault: Fault) -> &'static [u8] {
         Fault::SpansTransactions => b"spans-transactions",
         Fault::RowNotLocked => b"row-not-locked",
         Fault::NoSuchRow => b"no-such-row",
-        Fault::Duplicate => b"duplicate",
         Fault::NoSavepoint => b"no-savepoint",
         _ => b"another",
     }
 }
 
-/// A reply as a transcript spells it: bytes as they are, a digit for a number, and no number of a refusal.
-pub fn spelled(alloc: Global, reply: Reply) -> Mem<Vec<u8>> {
+/// Whether a transcript spells a reply so: bytes as they are, a digit for a number, and no number of a refusal or a commit.
+pub fn is_spelled(reply: &Reply, text: &[u8]) -> bool {
     match reply {
-        Reply::Done => Ok(Vec::from_slice(alloc, b"ok")?),
-        Reply::Number(number) => {
-            let digit = b'0' + (number % 10) as u8;
-            Ok(Vec::from_slice(alloc, &[digit])?)
-        }
-        Reply::Bytes(bytes) => Ok(Vec::from_slice(alloc, bytes.as_bytes())?),
-        Reply::Committed(_) => Ok(Vec::from_slice(alloc, b"commit")?),
-        Reply::Refused(fault) => Ok(Vec::from_slice(alloc, word_of(fault))?),
-        Reply::Ended => Ok(Vec::from_slice(alloc, b"end")?),
-        _ => Ok(Vec::new(alloc)),
+        Reply::Done => text == b"ok".as_slice(),
+        Reply::Number(number) => text == [b'0' + (*number % 10) as u8].as_slice(),
+        Reply::Bytes(bytes) => text == bytes.as_bytes(),
+        Reply::Committed(_) => text == b"commit".as_slice(),
+        Reply::Refused(fault) => text == word_of(*fault),
+        Reply::Ended => text == b"end".as_slice(),
+        Reply::Equal(_) => false,
     }
 }
