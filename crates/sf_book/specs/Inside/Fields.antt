@@ -1,5 +1,5 @@
 -- What the Book's fields keep of the store's half (our own).
-use Rattle.std.specs.Prelude.{◌≡◌, ℕ, ◌+◌, ◌-◌, ◌&&◌, Bool, nat_le, nat_lt, List, [], map, filter, filter_map, flat_map, length, take, slice_index_or, All, Option, Some, if◌then◌else◌}
+use Rattle.std.specs.Prelude.{◌≡◌, ℕ, ◌+◌, ◌-◌, ◌&&◌, Bool, nat_le, nat_lt, List, [], map, filter, filter_map, flat_map, length, take, slice_index_or, All, Option, Some, if◌then◌else◌, replicate}
 use Rattle.std.specs.List.{range_with_len}
 use Rattle.std.specs.Option.{option_map, option_map_or}
 use Rattle.sf_types.specs.declared.call.Call.{Call}
@@ -12,14 +12,14 @@ use Rattle.sf_types.specs.Table.Parts.{Rows}
 use Rattle.sf_types.specs.Table.Versions.{value_or_absent}
 use Rattle.sf_types.specs.Space.Reach.{is_kept}
 use Rattle.sf_types.specs.Space.Use.{content_of}
-use Rattle.sf_types.specs.Halves.Asks.{Half, Kept, kept_at}
+use Rattle.sf_types.specs.Halves.Asks.{Half, Kept, kept_at, new_kept}
 use Rattle.sf_types.specs.Halves.Flushes.{table_of_half, half_reach}
 use Rattle.sf_lifetimes.specs.Ledgers.{held_by}
-use Rattle.sf_stock.specs.Stocks.{StockView, births_of}
+use Rattle.sf_stock.specs.Stocks.{StockView, births_of, empty_stock}
 use Rattle.sf_retention.specs.declared.retention.Note.{Note}
 use Rattle.sf_retention.specs.Notes.{note_of}
 use Rattle.sf_versions.specs.RowChanges.{RowChanges, changes_of, last_number}
-use Rattle.sf_versions.specs.VersionTables.{VersionTable, versions_of}
+use Rattle.sf_versions.specs.VersionTables.{VersionTable, versions_of, no_versions}
 
 -- What is kept of a session beside its births and the births of its promise.
 pub record SessionField : Type 0 where
@@ -39,6 +39,18 @@ pub record Fields : Type 0 where
   pub floor : ℕ
   pub sessions : List SessionField
   pub stock : StockView
+
+-- The fields of a Book to which nothing was done.
+abbrev pub opening_fields : Options → ℕ → Fields
+opening_fields options sessions = record {
+  options = options;
+  locks = [];
+  versions = no_versions;
+  notes = [];
+  floor = 0;
+  sessions = replicate sessions (session_field new_kept);
+  stock = empty_stock;
+}
 
 -- What the version holds that a commit gave a row, where it is kept.
 abbrev pub version_births : Half → List ℕ → ℕ → List ℕ
