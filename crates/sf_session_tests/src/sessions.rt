@@ -53,39 +53,6 @@ fn play(alloc: Global, core: &mut SessionCore, lines: &[u8]) -> Mem<usize> {
     Err(OutOfMemory)
 }
 
-// Plays lines on a new session.
-fn play_anew(alloc: Global, lines: &[u8]) -> Mem<usize> {
-    let mut core = SessionCore::new(alloc, 1, 512);
-    play(alloc, &mut core, lines)
-}
-
-#[test]
-fn assigned_locators(rt: HostRuntime) -> Result<(), Fail> {
-    let lines =
-        b"d|ok|insert a;d|ok|lock p a;d|ok|writeappend p \"ab\";d|ok|assign q p;d|ok|write p 1 \"X\";\
-        d|ab|read q 2 1;d|Xb|read p 2 1;d|ok|write q 2 \"Y\";d|XY|read q 2 1;d|Xb|read p 2 1;";
-    assert_eq!(rt; play_anew(rt.alloc(), lines)?, 10);
-    Ok(())
-}
-
-#[test]
-fn locators_across_transactions(rt: HostRuntime) -> Result<(), Fail> {
-    let lines = b"d|ok|insert a;c|commit|commit;0|ok|select q a;0|ok|lock p a;c|commit|commit;\
-        d|spans-transactions|writeappend p \"x\";d|row-not-locked|writeappend q \"x\";0|ok|lock r a;\
-        d|ok|writeappend q \"x\";d|1|length q;";
-    assert_eq!(rt; play_anew(rt.alloc(), lines)?, 10);
-    Ok(())
-}
-
-#[test]
-fn refusals_of_the_session(rt: HostRuntime) -> Result<(), Fail> {
-    let lines =
-        b"d|ok|insert a;c|commit|commit;0|ok|asof r a 1;d|read-only|write r 1 \"x\";d|unknown-locator|free y;\
-        0|ok|lock p a;0|ok|delete a;d|no-such-row|delete a;d|no-such-row|writeappend p \"x\";d|ok|rollback;";
-    assert_eq!(rt; play_anew(rt.alloc(), lines)?, 10);
-    Ok(())
-}
-
 // Sets so many locators, each with a name of two letters, and answers how many calls are replied `ok`.
 fn select_names(alloc: Global, core: &mut SessionCore, count: u8) -> Mem<usize> {
     let mut done = 0usize;
@@ -100,19 +67,51 @@ fn select_names(alloc: Global, core: &mut SessionCore, count: u8) -> Mem<usize> 
     Ok(done)
 }
 
-// Plays lines on a session that has 255 locators.
-fn play_with_255(alloc: Global, lines: &[u8]) -> Mem<usize> {
-    let mut core = SessionCore::new(alloc, 1, 512);
-    if select_names(alloc, &mut core, 255)? != 255 {
+// Sets so many locators, and then plays lines.
+fn play_behind(alloc: Global, core: &mut SessionCore, names: u8, lines: &[u8]) -> Mem<usize> {
+    if select_names(alloc, core, names)? != usize::from(names) {
         return Err(OutOfMemory);
     }
-    play(alloc, &mut core, lines)
+    play(alloc, core, lines)
+}
+
+// Plays lines on a new session that has so many locators.
+fn play_with(alloc: Global, names: u8, lines: &[u8]) -> Mem<usize> {
+    let mut core = SessionCore::new(alloc, 1, 512);
+    play_behind(alloc, &mut core, names, lines)
+}
+
+#[test]
+fn assigned_locators(rt: HostRuntime) -> Result<(), Fail> {
+    let lines =
+        b"d|ok|insert a;d|ok|lock p a;d|ok|writeappend p \"ab\";d|ok|assign q p;d|ok|write p 1 \"X\";\
+        d|ab|read q 2 1;d|Xb|read p 2 1;d|ok|write q 2 \"Y\";d|XY|read q 2 1;d|Xb|read p 2 1;";
+    assert_eq!(rt; play_with(rt.alloc(), 0, lines)?, 10);
+    Ok(())
+}
+
+#[test]
+fn locators_across_transactions(rt: HostRuntime) -> Result<(), Fail> {
+    let lines = b"d|ok|insert a;c|commit|commit;0|ok|select q a;0|ok|lock p a;c|commit|commit;\
+        d|spans-transactions|writeappend p \"x\";d|row-not-locked|writeappend q \"x\";0|ok|lock r a;\
+        d|ok|writeappend q \"x\";d|1|length q;";
+    assert_eq!(rt; play_with(rt.alloc(), 0, lines)?, 10);
+    Ok(())
+}
+
+#[test]
+fn refusals_of_the_session(rt: HostRuntime) -> Result<(), Fail> {
+    let lines =
+        b"d|ok|insert a;c|commit|commit;0|ok|asof r a 1;d|read-only|write r 1 \"x\";d|unknown-locator|free y;\
+        0|ok|lock p a;0|ok|delete a;d|no-such-row|delete a;d|no-such-row|writeappend p \"x\";d|ok|rollback;";
+    assert_eq!(rt; play_with(rt.alloc(), 0, lines)?, 10);
+    Ok(())
 }
 
 #[test]
 fn a_session_has_256_locators(rt: HostRuntime) -> Result<(), Fail> {
     let lines = b"3|ok|select p a;3|too-many-locators|select new a;2|ok|select p a;d|2|length p;";
-    assert_eq!(rt; play_with_255(rt.alloc(), lines)?, 4);
+    assert_eq!(rt; play_with(rt.alloc(), 255, lines)?, 4);
     Ok(())
 }
 
@@ -122,6 +121,6 @@ fn a_rollback_to_a_savepoint(rt: HostRuntime) -> Result<(), Fail> {
         b"d|ok|insert a;d|ok|lock p a;d|ok|writeappend p \"ab\";d|ok|select q a;d|ok|savepoint s;\
         d|ok|writeappend p \"cd\";d|ok|insert b;d|ok|rollback to s;d|lost|read p 1 1;d|ab|read q 9 1;\
         d|ok|writeappend q \"Z\";d|abZ|read q 9 1;d|no-savepoint|rollback to t;";
-    assert_eq!(rt; play_anew(rt.alloc(), lines)?, 13);
+    assert_eq!(rt; play_with(rt.alloc(), 0, lines)?, 13);
     Ok(())
 }
