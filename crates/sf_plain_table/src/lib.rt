@@ -28,6 +28,7 @@ mod savepoints;
 mod segments;
 mod session;
 mod settling;
+mod space;
 mod steps;
 mod table;
 mod table_ends;

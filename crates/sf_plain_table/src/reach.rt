@@ -40,8 +40,8 @@ pub fn content_of(contents: &[Content], birth: u128) -> Option<&Content>
     }
 }
 
-// The blocks of a birth's content.
-fn blocks_of_birth(contents: &[Content], birth: u128) -> u64
+/// The blocks of a birth's content.
+pub fn blocks_of_birth(contents: &[Content], birth: u128) -> u64
     ensures { result ≡ blocks_of_birth contents.now birth }
 {
     match content_of(contents, birth) {
