@@ -1,4 +1,4 @@
-use Rattle.std.proofs.Common.{◌≡◌, ℕ, List, ◌++◌, map, sym, ap, subst, ◌∙◌}
+use Rattle.std.proofs.Common.{◌≡◌, ℕ, List, ◌++◌, map, ap, subst, ◌∙◌}
 use Rattle.std.specs.Prelude.{flat_map, IfOk}
 use Rattle.sf_types.specs.Inside.Births.{rising_births}
 use Rattle.sf_types.specs.Values.Marks.{births_in}

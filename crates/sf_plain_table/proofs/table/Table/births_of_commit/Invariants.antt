@@ -1,5 +1,5 @@
-use Rattle.std.proofs.Common.{◌≡◌, ◌++◌, List}
-use Rattle.std.specs.Prelude.{ℕ, flat_map, filter_map}
+use Rattle.std.proofs.Common.{◌≡◌, ◌++◌}
+use Rattle.std.specs.Prelude.{flat_map, filter_map}
 use Rattle.sf_types.specs.Space.Reach.{Holding, version_holding}
 use Rattle.sf_plain_table.proofs.table.Table.births_of_commit.Given as goal
 

@@ -1,4 +1,4 @@
-use Rattle.std.proofs.Common.{◌≡◌, ◌+◌, ◌-◌, ◌<◌, ◌++◌, [], List, ℕ, length, get_or, sym, ap, ◌∙◌, arith}
+use Rattle.std.proofs.Common.{◌≡◌, ◌+◌, ◌-◌, ◌<◌, ◌++◌, [], List, ℕ, length, get_or, ap, ◌∙◌, arith}
 use Rattle.std.specs.Prelude.{flat_map, filter_map, slice_index_or}
 use Rattle.std.specs.List.{range_with_len}
 use Rattle.sf_types.specs.Table.Parts.{Rows, Table}
