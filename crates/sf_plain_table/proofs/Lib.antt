@@ -1,6 +1,8 @@
+pub mod BirthLemmas
 pub mod CommitLemmas
 pub mod CutLemmas
 pub mod MatchLemmas
+pub mod ReachLemmas
 pub mod RefusalLemmas
 pub mod SavepointLemmas
 pub mod SegmentLemmas

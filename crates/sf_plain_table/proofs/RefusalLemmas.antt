@@ -1,5 +1,5 @@
 -- The first refusal of two lists, one after the other.
-use Rattle.std.proofs.Common.{◌≡◌, Bool, true, false, cond, List, [], ◌∷◌, ◌++◌, Option, Some, None, refl}
+use Rattle.std.proofs.Common.{◌≡◌, Bool, true, false, cond, List, [], ◌∷◌, ◌++◌, Some, None, refl}
 use Rattle.sf_types.specs.declared.reply.Fault.{Fault}
 use Rattle.sf_types.specs.Calls.Refusals.{first_refusal}
 

@@ -56,7 +56,7 @@ impl Session {
     pub fn erase_savepoints(&mut self)
         ensures { self.new ≡ record self.old { savepoints = [] } }
     {
-        self.savepoints = Vec::new(self.alloc);
+        self.savepoints.clear();
     }
 
     /// What Rollback does to the part. It takes no memory.

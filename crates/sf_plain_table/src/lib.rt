@@ -1,9 +1,11 @@
 //! The plain table of the store as a program: whole lists of marked bytes, for every call in any number of sessions.
 #![tactic(auto)]
 
+mod births;
 mod content;
 mod copies;
 mod cuts;
+mod due;
 pub mod edits;
 mod ends;
 mod faults;
@@ -14,9 +16,11 @@ mod marked;
 mod names;
 mod part_steps;
 mod promise;
+mod reach;
 mod reads;
 mod results;
 mod row_calls;
+mod row_ends;
 mod row_parts;
 mod rows;
 mod savepoint;
@@ -24,6 +28,7 @@ mod savepoints;
 mod segments;
 mod session;
 mod settling;
+mod space;
 mod steps;
 mod table;
 mod table_ends;

@@ -1,4 +1,4 @@
-use Rattle.std.proofs.Common.{rules, tests, ◌≡◌, ◌∷◌, ◌++◌, [], List, Bool, not, sym, ap, ◌∙◌}
+use Rattle.std.proofs.Common.{rules, tests, ◌∷◌, ◌++◌, [], List, Bool, not, ap, ◌∙◌}
 use Rattle.std.specs.Prelude.{filter}
 use Rattle.std.proofs.lemmas.Fn.{filter_same}
 use Rattle.std.specs.Cmp.Lexicographic.{texts_ties}

@@ -1,4 +1,4 @@
-use Rattle.std.proofs.Common.{◌≡◌, ℕ, vec_len}
+use Rattle.std.proofs.Common.{◌≡◌, vec_len}
 use Rattle.sf_types.specs.Table.Versions.{overlay}
 use Rattle.sf_plain_table.proofs.versions.put_entries.Given as goal
 

@@ -1,6 +1,5 @@
 use Rattle.std.proofs.Common.{◌≡◌, ◌+◌, sym, ap, ◌∙◌, take, ◌++◌, ◌∷◌, [], List}
 use Rattle.std.specs.Prelude.{unwrap_or}
-use Rattle.std.specs.Option.{option_copied}
 use Rattle.std.proofs.lemmas.List.{take_more}
 use Rattle.sf_types.specs.Inside.NameMaps.{get}
 use Rattle.sf_types.specs.Table.Parts.{Rows}

@@ -1,4 +1,4 @@
-use Rattle.std.proofs.Common.{◌≡◌, refl, sym, ap, ◌∙◌}
+use Rattle.std.proofs.Common.{refl, sym, ap, ◌∙◌}
 use Rattle.std.specs.List.{position}
 use Rattle.sf_types.specs.Inside.NameMaps.{is_same_name}
 use Rattle.sf_types.specs.Calls.Savepoints.{savepoints_up_to}

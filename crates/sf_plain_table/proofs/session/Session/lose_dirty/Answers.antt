@@ -1,7 +1,7 @@
 use Rattle.std.proofs.Common.{◌≡◌, cond, rules, tests, refl}
 use Rattle.std.proofs.lemmas.Map.Made.{map_same_pairs}
 use Rattle.sf_types.specs.Table.Parts.{Locator}
-use Rattle.sf_types.specs.Calls.Savepoints.{with_losses, lost_locator, is_since}
+use Rattle.sf_types.specs.Calls.Savepoints.{with_losses, lost_locator}
 use Rattle.sf_plain_table.proofs.session.Session.lose_dirty.Goals as goal
 
 pub returns : goal.returns

@@ -1,4 +1,4 @@
-use Rattle.std.proofs.Common.{Some, sym, ap, ◌∙◌}
+use Rattle.std.proofs.Common.{sym, ◌∙◌}
 use Rattle.std.specs.Option.{option_copied}
 use Rattle.sf_types.specs.Values.Marks.{size_of}
 use Rattle.sf_types.specs.Calls.Arguments.{argument_refusals}
