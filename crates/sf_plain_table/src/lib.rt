@@ -1,10 +1,10 @@
 //! The plain table of the store as a program: whole lists of marked bytes, for every call in any number of sessions.
 #![tactic(auto)]
 
-mod births;
+pub mod births;
 mod content;
 mod copies;
-mod cuts;
+pub mod cuts;
 mod due;
 pub mod edits;
 mod ends;
@@ -13,12 +13,12 @@ mod locator;
 mod locator_calls;
 mod locks;
 mod marked;
-mod names;
+pub mod names;
 mod part_steps;
 mod promise;
 mod reach;
 mod reads;
-mod results;
+pub mod results;
 mod row_calls;
 mod row_ends;
 mod row_parts;
@@ -27,8 +27,8 @@ mod savepoint;
 mod savepoints;
 mod segments;
 mod session;
-mod settling;
-mod space;
+pub mod settling;
+pub mod space;
 mod steps;
 mod table;
 mod table_ends;
@@ -40,7 +40,7 @@ pub use content::Content;
 pub use locator::Locator;
 pub use marked::{Mark, Marked};
 pub use promise::Promise;
-pub use rows::{RowState, Rows};
+pub use rows::{RowState, Rows, value_in};
 pub use savepoint::Savepoint;
 pub use session::Session;
 pub use table::Table;

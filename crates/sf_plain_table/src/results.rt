@@ -9,7 +9,7 @@ use crate::value::Value;
 use sf_types::{Blob, Call, Choice, Mem, Reply};
 use std::alloc::Global;
 
-// The bytes of a buffer, all of them fresh.
+/// The bytes of a buffer, all of them fresh.
 pub fn fresh_bytes(alloc: Global, buffer: &Blob) -> Mem<Vec<Marked>>
     ensures { IfOk result (λ marked. marked.items ≡ fresh_bytes buffer.now) }
 {
@@ -21,7 +21,7 @@ pub fn fresh_bytes(alloc: Global, buffer: &Blob) -> Mem<Vec<Marked>>
     Ok(marked)
 }
 
-// Marked bytes without their marks.
+/// Marked bytes without their marks.
 pub fn bytes_in(alloc: Global, marked: &[Marked]) -> Mem<Vec<u8>>
     ensures { IfOk result (λ bytes. bytes.items ≡ bytes_in marked.now) }
 {

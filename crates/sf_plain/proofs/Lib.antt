@@ -1,0 +1,3 @@
+pub mod FloorLemmas
+pub mod WantLemmas
+pub mod WrittenLemmas

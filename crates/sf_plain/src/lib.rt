@@ -1,0 +1,14 @@
+//! The plain table's due calls, and the plain store that plays any legal entry.
+#![tactic(auto)]
+
+mod flushes;
+mod gifts;
+mod legality;
+mod promises;
+mod publications;
+mod same_calls;
+mod wants;
+
+pub use legality::is_legal_beside;
+pub use promises::{cancel, promise};
+pub use publications::publish;
