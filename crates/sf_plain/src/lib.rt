@@ -1,4 +1,4 @@
-//! The plain table's due calls, and the plain store that plays any legal entry.
+//! The plain table's due calls: promises, publications and cancels.
 #![tactic(auto)]
 
 mod flushes;
