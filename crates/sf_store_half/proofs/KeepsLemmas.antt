@@ -1,4 +1,4 @@
--- A Book to which nothing was done.
+-- A store to which nothing was done.
 use Rattle.std.proofs.Common.{◌≡◌, ℕ, zero, suc, ◌+◌, ◌-◌, Bool, true, false, cond, List, [], ◌∷◌, map, Some, refl, sym, ap, ◌∙◌}
 use Rattle.std.specs.Prelude.{replicate, flat_map, slice_get, unwrap_or, nat_le, ◌&&◌}
 use Rattle.std.specs.Option.{option_map_or}
@@ -15,15 +15,13 @@ use Rattle.sf_types.specs.Space.Use.{content_of}
 use Rattle.sf_types.specs.Halves.Asks.{Kept, half_of, kept_of, new_kept}
 use Rattle.sf_types.specs.Halves.Flushes.{table_of_half, kept_holdings}
 use Rattle.sf_stock.specs.Stocks.{Stocked}
-use Rattle.sf_book.specs.Inside.Fields.{Keeps, SessionField, opening_fields, session_field, held_in, is_session}
+use Rattle.sf_store_half.specs.Fields.{Keeps, opening_fields, session_field, held_in, is_session}
+use Rattle.sf_store_half.specs.declared.session_fields.SessionField.{SessionField}
+use Rattle.sf_lifetimes.specs.Ledgers.{is_live}
 
 same_fields : (n : ℕ) → replicate n (session_field new_kept) ≡ map session_field (map kept_of (replicate n new_session))
 same_fields zero = refl
 same_fields (suc n) = ap (λ (xs : List SessionField). session_field new_kept ∷ xs) (same_fields n)
-
-none_held : (s n : ℕ) → flat_map (λ (x : Holding). x.births) (kept_holdings s (map kept_of (replicate n new_session))) ≡ []
-none_held s zero = refl
-none_held s (suc n) = none_held (s + 1) n
 
 each_new : (n k : ℕ) → unwrap_or (slice_get (map kept_of (replicate n new_session)) k) new_kept ≡ new_kept
 each_new zero k = refl
@@ -48,11 +46,12 @@ opening_keeps options n = record {
   floor = refl;
   sessions = same_fields n;
   now = refl;
+  commits = (record {} : Unit {0});
   rows = λ row. refl;
   notes = refl;
   next = refl;
   held = λ x. ap (λ bs. unwrap_or bs []) (get-empty holder_cmp x) ∙ sym (nothing_in options n x);
-  stocked = ap rising_births (sym (none_held 1 n));
+  live = All-nil (λ (x : Stocked). is_live (opening_fields options n).stock.holdings x.birth ≡ true);
   contents = All-nil (λ (x : Stocked). content_of (half_of (opening_table options n)).contents x.birth ≡ Some x.content);
   none_left = refl;
 }

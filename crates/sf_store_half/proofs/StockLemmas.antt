@@ -15,7 +15,7 @@ use Rattle.sf_types.specs.Space.Promises.{is_shared_as, found_birth}
 use Rattle.sf_types.specs.Halves.Asks.{Half}
 use Rattle.sf_types.specs.Halves.Flushes.{half_reach}
 use Rattle.sf_stock.specs.Stocks.{Stocked, IsSound, births_of, places_of, block_count, shared_birth, is_shared_with}
-use Rattle.sf_book.specs.Inside.Fields.{Fields, Keeps}
+use Rattle.sf_store_half.specs.Fields.{Fields, Keeps}
 
 blocks_by_births : (contents : List Content) (xs : List Stocked) → AllByRecursion (λ x. content_of contents x.birth ≡ Some x.content) xs → AllByRecursion (λ x. length x.blocks ≡ blocks_of (length x.content.bytes)) xs
     → block_count xs ≡ blocks_of_births contents (births_of xs)
@@ -31,12 +31,12 @@ blocks_by_births contents (x ∷ xs) known counts =
       counts.0,
     )
 
-pub use_by_stock : (f : Fields) (h : Half) → Keeps f h → IsSound f.stock → block_count f.stock.stocked ≡ blocks_of_births h.contents (half_reach h)
-use_by_stock f h keeps sound =
+pub use_by_stock : (f : Fields) (h : Half) → births_of f.stock.stocked ≡ half_reach h → Keeps f h → IsSound f.stock → block_count f.stock.stocked ≡ blocks_of_births h.contents (half_reach h)
+use_by_stock f h reached keeps sound =
     blocks_by_births h.contents f.stock.stocked
     (recursion_from_All (λ (x : Stocked). content_of h.contents x.birth ≡ Some x.content) f.stock.stocked keeps.contents)
     (recursion_from_All (λ (x : Stocked). length x.blocks ≡ blocks_of (length x.content.bytes)) f.stock.stocked sound.counts)
-    ∙ ap (blocks_of_births h.contents) keeps.stocked
+    ∙ ap (blocks_of_births h.contents) reached
 
 found_by_births : (contents : List Content) (bytes : List ℕ) (xs : List Stocked) → AllByRecursion (λ x. content_of contents x.birth ≡ Some x.content) xs → shared_birth xs bytes ≡ find (is_shared_as contents bytes) (births_of xs)
 found_by_births contents bytes [] known = refl
@@ -48,8 +48,8 @@ found_by_births contents bytes (x ∷ xs) known =
     ]
     ∙ ap (λ y. cond (option_map_or (λ (c : Content). c.is_shared && bytes_eq c.bytes bytes) y false) (Some x.birth) (find (is_shared_as contents bytes) (births_of xs))) (sym known.0)
 
-pub found_by_stock : (f : Fields) (h : Half) (cut : Cut) → Keeps f h → cut.is_sharing ≡ true → shared_birth f.stock.stocked cut.bytes ≡ found_birth h.contents (half_reach h) cut
-found_by_stock f h cut keeps sharing =
+pub found_by_stock : (f : Fields) (h : Half) (cut : Cut) → births_of f.stock.stocked ≡ half_reach h → Keeps f h → cut.is_sharing ≡ true → shared_birth f.stock.stocked cut.bytes ≡ found_birth h.contents (half_reach h) cut
+found_by_stock f h cut reached keeps sharing =
     found_by_births h.contents cut.bytes f.stock.stocked (recursion_from_All (λ (x : Stocked). content_of h.contents x.birth ≡ Some x.content) f.stock.stocked keeps.contents)
-    ∙ ap (find (is_shared_as h.contents cut.bytes)) keeps.stocked
+    ∙ ap (find (is_shared_as h.contents cut.bytes)) reached
     ∙ ap (λ t. cond t (find (is_shared_as h.contents cut.bytes) (half_reach h)) None) (sym sharing)

@@ -1,8 +1,7 @@
--- What the Book's fields keep of the store's half (our own).
+-- What fields keep of the store's half of a table (our own).
 use Rattle.std.specs.Prelude.{◌≡◌, ℕ, ◌+◌, ◌-◌, ◌&&◌, Bool, nat_le, nat_lt, List, [], map, filter, filter_map, flat_map, length, take, slice_index_or, All, Option, Some, if◌then◌else◌, replicate}
 use Rattle.std.specs.List.{range_with_len}
 use Rattle.std.specs.Option.{option_map, option_map_or}
-use Rattle.sf_types.specs.declared.call.Call.{Call}
 use Rattle.sf_types.specs.declared.holder.Holder.{Holder}
 use Rattle.sf_types.specs.declared.holder.Holder.TheVariants as holder
 use Rattle.sf_types.specs.declared.options.Options.{Options}
@@ -13,24 +12,25 @@ use Rattle.sf_types.specs.Table.Versions.{value_or_absent}
 use Rattle.sf_types.specs.Space.Reach.{is_kept}
 use Rattle.sf_types.specs.Space.Use.{content_of}
 use Rattle.sf_types.specs.Halves.Asks.{Half, Kept, kept_at, new_kept}
-use Rattle.sf_types.specs.Halves.Flushes.{table_of_half, half_reach}
-use Rattle.sf_lifetimes.specs.Ledgers.{held_by}
-use Rattle.sf_stock.specs.Stocks.{StockView, births_of, empty_stock}
+use Rattle.sf_types.specs.Halves.Flushes.{table_of_half}
+use Rattle.sf_lifetimes.specs.Ledgers.{held_by, is_live}
+use Rattle.sf_stock.specs.Stocks.{StockView, empty_stock}
 use Rattle.sf_retention.specs.declared.retention.Note.{Note}
 use Rattle.sf_retention.specs.Notes.{note_of}
 use Rattle.sf_versions.specs.RowChanges.{RowChanges, changes_of, last_number}
-use Rattle.sf_versions.specs.VersionTables.{VersionTable, versions_of, no_versions}
+use Rattle.sf_versions.specs.VersionTables.{VersionTable, versions_of, no_versions, AreCommits}
+use Rattle.sf_store_half.specs.declared.session_fields.Promised.{Promised}
+use Rattle.sf_store_half.specs.declared.session_fields.SessionField.{SessionField}
 
 -- What is kept of a session beside its births and the births of its promise.
-pub record SessionField : Type 0 where
-  pub is_open : Bool
-  pub has_ended : Bool
-  pub promise : Option (Call × ℕ)
-
 abbrev pub session_field : Kept → SessionField
-session_field k = record { is_open = k.is_open; has_ended = k.has_ended; promise = option_map (λ q. (q.call, q.blocks)) k.promise }
+session_field k = record {
+  is_open = k.is_open;
+  has_ended = k.has_ended;
+  promise = option_map {U = Promised} (λ q. record { call = q.call; blocks = q.blocks }) k.promise;
+}
 
--- The fields of a Book beside its history.
+-- All that is kept of a store's half.
 pub record Fields : Type 0 where
   pub options : Options
   pub locks : NameMap ℕ
@@ -40,7 +40,7 @@ pub record Fields : Type 0 where
   pub sessions : List SessionField
   pub stock : StockView
 
--- The fields of a Book to which nothing was done.
+-- The fields of a store to which nothing was done.
 abbrev pub opening_fields : Options → ℕ → Fields
 opening_fields options sessions = record {
   options = options;
@@ -84,17 +84,18 @@ notes_of h = filter (λ note. nat_lt h.floor note.until) (flat_map (displaced_by
 
 -- The fields keep a half: locks, floor, sessions and the number of commits are its own; a row's versions are those that are kept;
 -- the notes are of the versions that a higher floor gives up; each holder holds what it holds there; and the births that have a
--- place are those in reach, each with its content.
+-- place are held, each with its content. So they are those in reach.
 pub record Keeps (f : Fields) (h : Half) : Type 0 where
   pub options : f.options ≡ h.options
   pub locks : f.locks ≡ h.locks
   pub floor : f.floor ≡ h.floor
   pub sessions : f.sessions ≡ map session_field h.sessions
   pub now : f.versions.now ≡ length h.commits
+  pub commits : AreCommits h.commits
   pub rows : (row : List ℕ) → versions_of f.versions.rows row ≡ kept_versions h row
   pub notes : f.notes ≡ notes_of h
   pub next : f.stock.next ≡ length h.contents + 1
   pub held : (x : Holder) → held_by f.stock.holdings x ≡ held_in h x
-  pub stocked : births_of f.stock.stocked ≡ half_reach h
+  pub live : All (λ x. is_live f.stock.holdings x.birth ≡ true) f.stock.stocked
   pub contents : All (λ x. content_of h.contents x.birth ≡ Some x.content) f.stock.stocked
   pub none_left : f.stock.left ≡ []

@@ -1,0 +1,2 @@
+-- Words that serve the proofs of the bodies.
+pub mod Fields

@@ -1,0 +1,41 @@
+//! Calls that flush nothing.
+ghost use Rattle.std.specs.Prelude.{◌≡◌, [], IfOk, OnOk, OnErr};
+ghost use Rattle.sf_types.specs.Halves.Asks.{Half, half_answer, with_kept_births};
+ghost use Rattle.sf_types.specs.Halves.Flushes.{half_cancel};
+ghost use Rattle.sf_versions.specs.Asks.{IsAnswer, request_of_part};
+ghost use Rattle.std.specs.Option.{IfSome, IsSome};
+ghost use Rattle.sf_store_half.specs.Fields.{Keeps};
+ghost use Rattle.sf_store_half.specs.HalfMoves.{AreStocked, BringsStocked, HasField, IsRepacked, field_at};
+
+use crate::store_half::StoreHalf;
+use sf_types::{Births, Call, Mem, OutOfMemory};
+use sf_versions::{Answer, Ask};
+
+impl StoreHalf {
+    /// The answer to a call that flushes nothing, of a session that holds these births before it. After want of memory nothing
+    /// has changed.
+    pub fn answer(&mut self, session: u16, births: Births, ask: Ask) -> Mem<Answer>
+        requires session { HasField self.old session }
+        requires births { AreStocked self.old births }
+        requires ask { BringsStocked self.old ask }
+        ensures kept { OnOk result ((h : Half) → Keeps self.old h
+            → Keeps self.new (half_answer (with_kept_births h session births) session ask.call (request_of_part ask.part) ask.kept).0) }
+        ensures answer { IfOk result (λ answer. (h : Half) → Keeps self.old h
+            → IsAnswer answer (half_answer (with_kept_births h session births) session ask.call (request_of_part ask.part) ask.kept).1) }
+        ensures repacked { OnOk result (IsRepacked self.old.stock self.new.stock []) }
+        ensures err { OnErr result (self.new ≡ self.old) }
+    {
+        Err(OutOfMemory)
+    }
+
+    /// A session holds these births from now on. After want of memory nothing has changed.
+    pub fn note(&mut self, session: u16, births: Births) -> Mem<()>
+        requires session { HasField self.old session }
+        requires births { AreStocked self.old births }
+        ensures kept { OnOk result ((h : Half) → Keeps self.old h → Keeps self.new (with_kept_births h session births)) }
+        ensures repacked { OnOk result (IsRepacked self.old.stock self.new.stock []) }
+        ensures err { OnErr result (self.new ≡ self.old) }
+    {
+        Err(OutOfMemory)
+    }
+}

@@ -1,0 +1,12 @@
+//! The store's half of the table: row locks, versions, retention, the sessions' fields and the stock, for any number of sessions.
+#![tactic(auto)]
+
+mod answers;
+pub mod laws;
+mod publications;
+mod reserves;
+mod session_fields;
+mod store_half;
+
+pub use session_fields::{Promised, SessionField};
+pub use store_half::{Published, StoreHalf};

@@ -1,0 +1,116 @@
+//! The store's half of the table.
+ghost use Rattle.std.specs.Prelude.{◌≡◌, ◌+◌, ◌-◌, ◌≤◌, ◌++◌, ℕ, map, length, take, min, IfOk};
+ghost use Rattle.std.specs.List.{list_all};
+ghost use Rattle.sf_types.specs.Limits.{IsInRange};
+ghost use Rattle.sf_types.specs.Space.BlockRuns.{blocks_in};
+ghost use Rattle.sf_types.specs.Halves.Asks.{Half};
+ghost use Rattle.sf_types.specs.Halves.Flushes.{half_free};
+ghost use Rattle.sf_stock.specs.Stocks.{IsSound, AreShifts, listed_place, with_shifts, without_ripe};
+ghost use Rattle.sf_store_half.specs.Fields.{Keeps, opening_fields};
+
+use crate::session_fields::SessionField;
+use sf_retention::Retention;
+use sf_row_locks::RowLocks;
+use sf_shrink::ShiftList;
+use sf_stock::Stock;
+use sf_types::{Mem, Options, OutOfMemory, PlaceList, Runs};
+use sf_versions::{Answer, Versions};
+use std::alloc::Global;
+use std::marker::Model;
+
+/// The store's half of the table, seen as its fields. All births that have a place are held, and none waits to be parked.
+#[derive(Drop)]
+pub struct StoreHalf {
+    options: Options,
+    locks: RowLocks,
+    versions: Versions,
+    notes: Retention,
+    floor: u64,
+    sessions: Vec<SessionField>,
+    promised: u64,
+    stock: Stock,
+}
+
+/// The answer to a call that was published, and those blocks that none of its contents takes.
+#[derive(Drop)]
+pub struct Published {
+    pub answer: Answer,
+    pub unused: Runs,
+}
+
+impl Model for StoreHalf {
+    ghost use Rattle.sf_store_half.specs.Fields.{Fields};
+    ghost use Rattle.sf_store_half.specs.Inside.Fields.{AreKept};
+
+    ghost Value = { Fields };
+
+    ghost view = { λ x. record {
+      options = x.options;
+      locks = x.locks.held;
+      versions = x.versions.held;
+      notes = x.notes.held;
+      floor = x.floor;
+      sessions = x.sessions.items;
+      stock = x.stock.held;
+    } };
+
+    ghost invariant = { λ x. AreKept x.options x.sessions.items x.promised x.stock.held };
+}
+
+impl StoreHalf {
+    /// The half of a store to which nothing was done.
+    pub fn new(alloc: Global, options: Options, sessions: u16) -> Mem<StoreHalf>
+        requires { IsInRange options }
+        ensures { IfOk result (λ half. half ≡ opening_fields options sessions) }
+    {
+        Err(OutOfMemory)
+    }
+
+    /// The number of commits.
+    pub fn now(&self) -> u64
+        ensures { result ≡ self.now.versions.now }
+    {
+        self.versions.now()
+    }
+
+    /// The number of blocks of the store.
+    pub fn capacity(&self) -> u32
+        ensures { result ≡ self.now.options.capacity }
+    {
+        self.options.capacity
+    }
+
+    /// The number of parked blocks.
+    pub fn parked(&self) -> u64
+        ensures { result ≡ length self.now.stock.parked }
+    {
+        self.stock.parked()
+    }
+
+    /// Takes the first `max` parked blocks, or all where there are fewer, and puts their runs behind those of `into`, which has
+    /// room for as many runs as blocks are taken. The answer is the number of the blocks. It takes no memory.
+    pub fn take_ripe(&mut self, max: u64, into: &mut Runs) -> u64
+        requires { min max (length self.old.stock.parked) ≤ into.old.spare }
+        ensures count { result ≡ min max (length self.old.stock.parked) }
+        ensures taken { blocks_in into.new.held ≡ blocks_in into.old.held ++ take result self.old.stock.parked }
+        ensures fields { self.new ≡ record self.old { stock = without_ripe self.old.stock result } }
+        ensures spare { into.old.spare ≤ into.new.spare + result }
+    {
+        self.stock.take_ripe(max, into)
+    }
+
+    /// The births in reach, rising, each with its length, its digest and the maximal runs of its blocks.
+    pub fn places(&self) -> Mem<PlaceList>
+        ensures { IfOk result (λ places. places ≡ map listed_place self.now.stock.stocked) }
+    {
+        self.stock.places()
+    }
+
+    /// Moves all contents together, each to the one run of its shift. It takes no memory.
+    pub fn shift(&mut self, shifts: ShiftList)
+        requires { AreShifts self.old.stock shifts }
+        ensures { self.new ≡ record self.old { stock = with_shifts self.old.stock shifts } }
+    {
+        self.stock.shift(shifts);
+    }
+}
