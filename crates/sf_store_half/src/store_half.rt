@@ -39,10 +39,16 @@ pub struct Published {
 }
 
 impl Model for StoreHalf {
+    ghost use Rattle.std.specs.Coded.{codes, coded_ℕ, coded_list};
+    ghost use Rattle.std.specs.FinMap as fin;
+    ghost use Rattle.sf_types.specs.contracts.holder.Holder as holder;
+    ghost use Rattle.sf_stock.specs.Inside.Codes.{stock_code};
     ghost use Rattle.sf_store_half.specs.Fields.{Fields};
     ghost use Rattle.sf_store_half.specs.Inside.Fields.{AreKept};
 
     ghost Value = { Fields };
+
+    ghost coded = { Prim.hlevel (codes, stock_code (fin.code holder.the_row.coded (coded_list coded_ℕ))) };
 
     ghost view = { λ x. record {
       options = x.options;

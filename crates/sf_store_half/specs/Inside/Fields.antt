@@ -10,7 +10,7 @@ use Rattle.sf_store_half.specs.declared.session_fields.SessionField.{SessionFiel
 
 -- The blocks that are promised to a session.
 abbrev pub promised_blocks : SessionField → ℕ
-promised_blocks field = option_map_or {U = Promised} (λ promised. promised.blocks) field.promise 0
+promised_blocks field = option_map_or (λ (promised : Promised). promised.blocks) field.promise 0
 
 -- The promised blocks are counted, and no more than the capacity; each birth that has a place is held; and none waits to be parked.
 pub record AreKept (options : Options) (sessions : List SessionField) (promised : ℕ) (stock : StockView) : Type 0 where
