@@ -2,6 +2,7 @@
 #![tactic(auto)]
 
 mod answers;
+mod cut_notes;
 pub mod laws;
 mod publications;
 mod reserves;
