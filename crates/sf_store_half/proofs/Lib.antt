@@ -1,2 +1,5 @@
+pub mod HeldReachLemmas
 pub mod KeepsLemmas
+pub mod LiveLemmas
 pub mod StockLemmas
+pub mod StockReachLemmas
