@@ -1,19 +1,18 @@
 -- A store to which nothing was done.
-use Rattle.std.proofs.Common.{◌≡◌, ℕ, zero, suc, ◌+◌, ◌-◌, Bool, true, false, cond, List, [], ◌∷◌, map, Some, refl, sym, ap, ◌∙◌}
-use Rattle.std.specs.Prelude.{replicate, flat_map, slice_get, unwrap_or, nat_le, ◌&&◌}
+use Rattle.std.proofs.Common.{◌≡◌, ℕ, zero, suc, ◌-◌, Bool, true, false, cond, List, [], ◌∷◌, map, Some, refl, sym, ap, ◌∙◌}
+use Rattle.std.specs.Prelude.{replicate, slice_get, unwrap_or, nat_le, ◌&&◌}
 use Rattle.std.specs.Option.{option_map_or}
 use Rattle.std.specs.FinMap.{get-empty}
 use Rattle.std.proofs.lemmas.List.Elements.{All-nil}
 use Rattle.sf_types.specs.declared.holder.Holder.{Holder}
 use Rattle.sf_types.specs.declared.holder.Holder.TheVariants as holder
 use Rattle.sf_types.specs.declared.options.Options.{Options}
-use Rattle.sf_types.specs.Inside.Births.{rising_births}
 use Rattle.sf_types.specs.Inside.Holders.{holder_cmp}
 use Rattle.sf_types.specs.Table.Parts.{new_session, opening_table}
-use Rattle.sf_types.specs.Space.Reach.{Holding, is_kept}
+use Rattle.sf_types.specs.Space.Reach.{is_kept}
 use Rattle.sf_types.specs.Space.Use.{content_of}
 use Rattle.sf_types.specs.Halves.Asks.{Kept, half_of, kept_of, new_kept}
-use Rattle.sf_types.specs.Halves.Flushes.{table_of_half, kept_holdings}
+use Rattle.sf_types.specs.Halves.Flushes.{table_of_half}
 use Rattle.sf_stock.specs.Stocks.{Stocked}
 use Rattle.sf_store_half.specs.Fields.{Keeps, opening_fields, session_field, held_in, is_session}
 use Rattle.sf_store_half.specs.declared.session_fields.SessionField.{SessionField}

@@ -1,3 +1,4 @@
+pub mod FieldLemmas
 pub mod HeldReachLemmas
 pub mod KeepsLemmas
 pub mod LiveLemmas

@@ -1,5 +1,5 @@
 -- What fields keep of the store's half of a table (our own).
-use Rattle.std.specs.Prelude.{◌≡◌, ℕ, ◌+◌, ◌-◌, ◌&&◌, Bool, nat_le, nat_lt, List, [], map, filter, filter_map, flat_map, length, take, slice_index_or, All, Option, Some, if◌then◌else◌, replicate, true}
+use Rattle.std.specs.Prelude.{◌≡◌, ℕ, ◌+◌, ◌-◌, ◌&&◌, Bool, nat_le, nat_lt, List, [], map, filter, filter_map, flat_map, length, take, slice_index_or, All, Some, if◌then◌else◌, replicate, true}
 use Rattle.std.specs.List.{range_with_len}
 use Rattle.std.specs.Option.{option_map, option_map_or}
 use Rattle.sf_types.specs.declared.holder.Holder.{Holder}

@@ -1,7 +1,6 @@
 -- What the calls on the store's half ask, and how each of them moves the places (our own).
-use Rattle.std.specs.Prelude.{◌≡◌, ◌≢◌, ℕ, ◌+◌, ◌-◌, ◌≤◌, ◌<◌, ◌^◌, true, not, List, [], ◌∷◌, ◌++◌, map, length, drop, filter, flat_map, slice_get, unwrap_or, All, AllPairs, Contains, Option, Some}
+use Rattle.std.specs.Prelude.{◌≡◌, ◌≢◌, ℕ, ◌+◌, ◌-◌, ◌≤◌, ◌<◌, ◌^◌, true, not, List, [], ◌∷◌, ◌++◌, map, length, drop, filter, flat_map, slice_get, unwrap_or, All, AllPairs, Contains, Some}
 use Rattle.std.specs.List.{range_with_len}
-use Rattle.std.specs.Option.{IfSome, IsSome, option_map_or}
 use Rattle.sf_types.specs.declared.options.Options.{Options}
 use Rattle.sf_types.specs.Values.Marks.{births_in}
 use Rattle.sf_types.specs.Table.Parts.{Rows}
@@ -13,11 +12,10 @@ use Rattle.sf_types.specs.Halves.Asks.{Request, Commits, Settles, Half, new_kept
 use Rattle.sf_types.specs.Halves.Flushes.{half_wanted_blocks}
 use Rattle.sf_types.specs.Play.Blocks.{places_by_first, places_of_new}
 use Rattle.sf_dedup.specs.Prints.{print_of}
-use Rattle.sf_stock.specs.Stocks.{Stocked, StockView, is_stocked, places_of}
+use Rattle.sf_stock.specs.Stocks.{StockView, is_stocked, places_of}
 use Rattle.sf_versions.specs.declared.asks.Ask.{Ask}
 use Rattle.sf_versions.specs.declared.asks.Flush.{Flush}
 use Rattle.sf_versions.specs.Asks.{request_of_part, cuts_with}
-use Rattle.sf_store_half.specs.declared.session_fields.Promised.{Promised}
 use Rattle.sf_store_half.specs.declared.session_fields.SessionField.{SessionField}
 use Rattle.sf_store_half.specs.Fields.{Fields, Keeps, session_field}
 
