@@ -1,5 +1,8 @@
 pub mod CutNoteLemmas
 pub mod FieldLemmas
 pub mod FlushLemmas
+pub mod HeldReachLemmas
 pub mod KeepsLemmas
+pub mod LiveLemmas
 pub mod StockLemmas
+pub mod StockReachLemmas
