@@ -1,8 +1,11 @@
+pub mod BlockLemmas
 pub mod CutNoteLemmas
 pub mod FieldLemmas
 pub mod FlushLemmas
+pub mod HasBirthLemmas
 pub mod HeldReachLemmas
 pub mod KeepsLemmas
 pub mod LiveLemmas
 pub mod StockLemmas
 pub mod StockReachLemmas
+pub mod TrialLemmas

@@ -1,3 +1,4 @@
 -- Words that serve the proofs of the bodies.
 pub mod Fields
 pub mod CutNotes
+pub mod Trials

@@ -8,6 +8,7 @@ mod publications;
 mod reserves;
 mod session_fields;
 mod store_half;
+mod trials;
 
 pub use session_fields::{Promised, SessionField};
 pub use store_half::{Published, StoreHalf};
