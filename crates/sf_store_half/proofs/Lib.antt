@@ -1,11 +1,14 @@
+pub mod BetweenLemmas
 pub mod BlockLemmas
 pub mod CutNoteLemmas
 pub mod FieldLemmas
 pub mod FlushLemmas
 pub mod HasBirthLemmas
+pub mod HeldLemmas
 pub mod HeldReachLemmas
 pub mod KeepsLemmas
 pub mod LiveLemmas
+pub mod SettledLemmas
 pub mod StockLemmas
 pub mod StockReachLemmas
 pub mod TrialLemmas

@@ -7,6 +7,8 @@ ghost use Rattle.std.specs.Option.{IfSome, IsSome};
 ghost use Rattle.sf_store_half.specs.Fields.{Keeps};
 ghost use Rattle.sf_store_half.specs.HalfMoves.{AreStocked, BringsStocked, HasField, IsRepacked, field_at};
 
+use crate::session_fields::{Promised, take_promise};
+use crate::stock_steps::{drop_promise, keep_births};
 use crate::store_half::StoreHalf;
 use sf_types::{Births, Call, Mem, OutOfMemory};
 use sf_versions::{Answer, Ask};
@@ -36,6 +38,25 @@ impl StoreHalf {
         ensures repacked { OnOk result (IsRepacked self.old.stock self.new.stock []) }
         ensures err { OnErr result (self.new ≡ self.old) }
     {
-        Err(OutOfMemory)
+        self.stock.make_room(births.as_slice().len() as u64)?;
+        keep_births(&mut self.stock, session, births);
+        Ok(())
+    }
+
+    /// Ends the standing promise of a session, and hands out the call for which it stands. It takes no memory.
+    pub fn cancel(&mut self, session: u16) -> Call
+        requires session { HasField self.old session }
+        requires promised { IsSome (field_at self.old session).promise }
+        ensures call { IfSome (field_at self.old session).promise (λ promised. result ≡ promised.call) }
+        ensures kept { (h : Half) → Keeps self.old h → Keeps self.new (half_cancel h session) }
+        ensures repacked { IsRepacked self.old.stock self.new.stock [] }
+    {
+        let Some(promised) = take_promise(&mut self.sessions, session) else {
+            unreachable!();
+        };
+        drop_promise(&mut self.stock, session);
+        let Promised { call, blocks } = promised;
+        self.promised -= blocks;
+        call
     }
 }

@@ -4,9 +4,11 @@
 mod answers;
 mod cut_notes;
 pub mod laws;
+mod openings;
 mod publications;
 mod reserves;
 mod session_fields;
+mod stock_steps;
 mod store_half;
 mod trials;
 
