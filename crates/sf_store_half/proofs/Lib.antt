@@ -12,3 +12,4 @@ pub mod SettledLemmas
 pub mod StockLemmas
 pub mod StockReachLemmas
 pub mod TrialLemmas
+pub mod TriedLemmas
