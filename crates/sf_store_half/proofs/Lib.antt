@@ -2,6 +2,7 @@ pub mod BetweenLemmas
 pub mod BlockLemmas
 pub mod CutNoteLemmas
 pub mod FieldLemmas
+pub mod FloorLemmas
 pub mod FlushLemmas
 pub mod HasBirthLemmas
 pub mod HeldLemmas
