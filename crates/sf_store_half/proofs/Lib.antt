@@ -14,3 +14,4 @@ pub mod StockLemmas
 pub mod StockReachLemmas
 pub mod TrialLemmas
 pub mod TriedLemmas
+pub mod VersionHoldLemmas
