@@ -9,6 +9,7 @@ pub mod HeldLemmas
 pub mod HeldReachLemmas
 pub mod KeepsLemmas
 pub mod LiveLemmas
+pub mod NoteLemmas
 pub mod SettledLemmas
 pub mod StockLemmas
 pub mod StockReachLemmas
