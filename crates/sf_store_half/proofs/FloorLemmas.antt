@@ -48,7 +48,7 @@ same_kept p q (v ∷ vs) same =
     ap (λ t. cond {A = RowChanges} t (v ∷ filter p vs) (filter p vs)) same.0
     ∙ ap (λ (ws : RowChanges). cond {A = RowChanges} (q v) (v ∷ ws) ws) (same_kept p q vs same.1)
 
-each_of : (P Q : ℕ × Option Value → Type 0) (vs : RowChanges) → ((v : ℕ × Option Value) → P v → Q v) → Each P vs → Each Q vs
+pub each_of : (P Q : ℕ × Option Value → Type 0) (vs : RowChanges) → ((v : ℕ × Option Value) → P v → Q v) → Each P vs → Each Q vs
 each_of P Q [] to all = tt
 each_of P Q (v ∷ vs) to all = (to v all.0, each_of P Q vs to all.1)
 
@@ -108,7 +108,7 @@ last_kept before (c ∷ cs) row =
         ∙ ap (λ n. drop n (v ∷ w ∷ vs)) (sym next)
 
 -- ---- versions are numbered up to the number of the last commit
-within_last : (before : ℕ) (cs : List Rows) (row : List ℕ) → Each (λ v. v.0 ≤ before + length cs) (changes_of before cs row)
+pub within_last : (before : ℕ) (cs : List Rows) (row : List ℕ) → Each (λ v. v.0 ≤ before + length cs) (changes_of before cs row)
 within_last before [] row = tt
 within_last before (c ∷ cs) row =
     let later : Each (λ v. v.0 ≤ before + length (c ∷ cs)) (changes_of (before + 1) cs row) =

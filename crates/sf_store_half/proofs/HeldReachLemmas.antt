@@ -46,7 +46,7 @@ found_behind e m none x is =
       | false ↦ λ apart. is
     ] refl
 
-each_found : {X : Type 0} (m : NameMap X) → IsRisingMap m → Each (λ e. get m e.0 ≡ Some e.1) m
+pub each_found : {X : Type 0} (m : NameMap X) → IsRisingMap m → Each (λ e. get m e.0 ≡ Some e.1) m
 each_found [] rising = tt
 each_found (e ∷ m) rising =
     let head = rising_head e m rising in

@@ -4,12 +4,14 @@ pub mod CutNoteLemmas
 pub mod FieldLemmas
 pub mod FloorLemmas
 pub mod FlushLemmas
+pub mod GivenUpLemmas
 pub mod HasBirthLemmas
 pub mod HeldLemmas
 pub mod HeldReachLemmas
 pub mod KeepsLemmas
 pub mod LiveLemmas
 pub mod NoteLemmas
+pub mod RaisedLemmas
 pub mod SettledLemmas
 pub mod StockLemmas
 pub mod StockReachLemmas

@@ -29,7 +29,7 @@ abbrev pub births_of_version : RowChanges → ℕ → List ℕ
 births_of_version vs n = option_map_or births_in (value_or_absent (value_for nat_cmp vs n)) []
 
 -- a version that isn't there, since the others are numbered past it
-not_past : (vs : RowChanges) (n : ℕ) → Each (λ v. n < v.0) vs → value_for nat_cmp vs n ≡ None
+pub not_past : (vs : RowChanges) (n : ℕ) → Each (λ v. n < v.0) vs → value_for nat_cmp vs n ≡ None
 not_past [] n all = refl
 not_past (v ∷ vs) n all = ap (λ r. cond (is_eq r) (Some v.1) (value_for nat_cmp vs n)) (sym (nat_cmp_is n v.0 Less all.0)) ∙ not_past vs n all.1
 

@@ -2,3 +2,4 @@
 pub mod Fields
 pub mod CutNotes
 pub mod Trials
+pub mod Floors
