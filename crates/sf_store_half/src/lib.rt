@@ -3,6 +3,7 @@
 
 mod answers;
 mod cut_notes;
+mod floors;
 pub mod laws;
 mod openings;
 mod publications;
