@@ -4,6 +4,7 @@ pub mod HeldLemmas
 pub mod HeldReachLemmas
 pub mod KeepsLemmas
 pub mod LiveLemmas
+pub mod SetLemmas
 pub mod SettledLemmas
 pub mod StockLemmas
 pub mod StockReachLemmas

@@ -8,7 +8,7 @@ ghost use Rattle.sf_store_half.specs.Fields.{Keeps};
 ghost use Rattle.sf_store_half.specs.HalfMoves.{AreStocked, BringsStocked, HasField, IsRepacked, field_at};
 
 use crate::session_fields::{Promised, take_promise};
-use crate::stock_steps::{drop_promise, keep_births};
+use crate::stock_steps::drop_promise;
 use crate::store_half::StoreHalf;
 use sf_types::{Births, Call, Mem, OutOfMemory};
 use sf_versions::{Answer, Ask};
@@ -38,8 +38,9 @@ impl StoreHalf {
         ensures repacked { OnOk result (IsRepacked self.old.stock self.new.stock []) }
         ensures err { OnErr result (self.new ≡ self.old) }
     {
-        self.stock.make_room(births.as_slice().len() as u64)?;
-        keep_births(&mut self.stock, session, births);
+        let is_open = self.is_open(session);
+        let has_ended = self.has_ended(session);
+        self.settle(session, births, is_open, has_ended)?;
         Ok(())
     }
 

@@ -7,6 +7,7 @@ mod openings;
 mod publications;
 mod reserves;
 mod session_fields;
+mod settling;
 mod stock_steps;
 mod store_half;
 

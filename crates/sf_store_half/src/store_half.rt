@@ -61,7 +61,15 @@ impl Model for StoreHalf {
       stock = x.stock.held;
     } };
 
-    ghost invariant = { λ x. AreKept x.options x.sessions.items x.promised x.stock.held };
+    ghost invariant = { λ x. AreKept (record {
+      options = x.options;
+      locks = x.locks.held;
+      versions = x.versions.held;
+      notes = x.notes.held;
+      floor = x.floor;
+      sessions = x.sessions.items;
+      stock = x.stock.held;
+    }) x.promised };
 }
 
 impl StoreHalf {
