@@ -1,5 +1,7 @@
+pub mod AnswerLemmas
 pub mod BetweenLemmas
 pub mod FieldLemmas
+pub mod FreeLemmas
 pub mod HeldLemmas
 pub mod HeldReachLemmas
 pub mod KeepsLemmas

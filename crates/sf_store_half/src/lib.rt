@@ -4,8 +4,10 @@
 mod answers;
 pub mod laws;
 mod openings;
+mod plain_answers;
 mod publications;
 mod reserves;
+mod row_answers;
 mod session_fields;
 mod settling;
 mod stock_steps;

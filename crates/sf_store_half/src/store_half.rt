@@ -104,6 +104,22 @@ impl StoreHalf {
         self.options.capacity
     }
 
+    /// Whether all sessions have ended.
+    pub fn all_ended(&self) -> bool
+        ensures { result ≡ list_all (λ field. field.has_ended) self.now.sessions }
+    {
+        self.sessions.iter().all(|field| field.has_ended)
+    }
+
+    /// The number of free blocks, which is one subtraction.
+    pub fn free(&self) -> u64
+        ensures { (h : Half) → Keeps self.now h → result ≡ half_free h }
+    {
+        let _sound = self.stock.next_birth();
+        let used = self.stock.live_blocks() + self.promised;
+        u64::from(self.options.capacity).saturating_sub(used)
+    }
+
     /// The number of parked blocks.
     pub fn parked(&self) -> u64
         ensures { result ≡ length self.now.stock.parked }
