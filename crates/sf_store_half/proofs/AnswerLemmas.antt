@@ -19,7 +19,7 @@ set_twice (k ∷ ks) zero a b = refl
 set_twice (k ∷ ks) (suc i) a b = ap (λ (xs : List Kept). k ∷ xs) (set_twice ks i a b)
 
 -- what is made of what is kept of a session, where the session's births are replaced first
-replaced : (F : (Kept → List Kept) → Kept → Half × rule.Answer) (h : Half) (s : ℕ) (births : List ℕ) → is_session h s ≡ true
+pub replaced : (F : (Kept → List Kept) → Kept → Half × rule.Answer) (h : Half) (s : ℕ) (births : List ℕ) → is_session h s ≡ true
     → F (slice_set (with_kept_births h s births).sessions (s - 1)) (kept_at (with_kept_births h s births) s) ≡ F (slice_set h.sessions (s - 1)) (record (kept_at h s) { births = births })
 replaced F h s births is = λ i. F (λ k. set_twice h.sessions (s - 1) (record (kept_at h s) { births = births }) k i) (kept_with h s (record (kept_at h s) { births = births }) is i)
 

@@ -5,7 +5,9 @@ pub mod FreeLemmas
 pub mod HeldLemmas
 pub mod HeldReachLemmas
 pub mod KeepsLemmas
+pub mod KeptRowLemmas
 pub mod LiveLemmas
+pub mod RowAnswerLemmas
 pub mod SetLemmas
 pub mod SettledLemmas
 pub mod StockLemmas
