@@ -3,24 +3,27 @@ use Rattle.std.proofs.Common.{◌≡◌, ℕ, zero, suc, ◌+◌, ◌-◌, ◌�
 use Rattle.std.specs.Prelude.{All, sum_by, ◌==◌, slice_get, slice_set, unwrap_or}
 use Rattle.std.specs.Option.{option_map_or}
 use Rattle.std.proofs.lemmas.Bool.Decides.{nat_tests}
+use Rattle.std.specs.List.{AllByRecursion as Each}
 use Rattle.std.proofs.lemmas.List.{length-map}
+use Rattle.std.proofs.lemmas.List.Elements.{All-from_recursion, recursion_from_All}
 use Rattle.std.proofs.lemmas.List.Sums.{sum_by-cons}
 use Rattle.sf_types.specs.declared.holder.Holder.{Holder}
 use Rattle.sf_types.specs.declared.holder.Holder.TheVariants as holder
-use Rattle.sf_types.specs.declared.options.Options.{Options}
 use Rattle.sf_types.specs.Inside.NameMaps.{NameMap}
-use Rattle.sf_types.specs.Table.Parts.{Promise}
+use Rattle.sf_types.specs.Table.Parts.{Content, Promise}
 use Rattle.sf_types.specs.Space.Use.{content_of}
 use Rattle.sf_types.specs.Halves.Asks.{Half, Kept, kept_at, new_kept, with_kept}
 use Rattle.sf_types.proofs.NumberLemmas.{same_number}
 use Rattle.sf_laws.proofs.AskLemmas.{map-set}
 use Rattle.sf_lifetimes.specs.Ledgers.{held_by, is_live, with_births}
-use Rattle.sf_stock.specs.Stocks.{StockView, IsSound, with_holder, with_left_parked}
+use Rattle.sf_shrink.specs.declared.shifts.Shift.{Shift}
+use Rattle.sf_stock.specs.Stocks.{Stocked, moved_by, with_shifts, StockView, IsSound, with_holder, with_left_parked}
 use Rattle.sf_store_half.specs.Fields.{Fields, Keeps, held_in, is_session, session_field}
 use Rattle.sf_store_half.specs.HalfMoves.{HasField, IsRepacked, field_at}
-use Rattle.sf_store_half.specs.Inside.Fields.{AreKept, promised_blocks}
+use Rattle.sf_store_half.specs.Inside.Fields.{promised_blocks}
 use Rattle.sf_store_half.specs.declared.session_fields.Promised.{Promised}
 use Rattle.sf_store_half.specs.declared.session_fields.SessionField.{SessionField}
+use Rattle.sf_store_half.proofs.FieldLemmas.{live_where_moved}
 use Rattle.sf_store_half.proofs.BetweenLemmas.{IsBetween, all_since, between_held, between_itself, live_between, repacked_between}
 use Rattle.sf_store_half.proofs.HeldLemmas.{births_promised, held_after, promise_held_with, same_promise, same_session, session_held_with}
 
@@ -154,25 +157,66 @@ repacked_by stock now holder births none live sound between is =
     subst (λ (x : StockView). IsRepacked stock x []) (sym is)
     (repacked_between stock (with_holder stock holder births) (between_held stock stock (with_births stock.holdings holder births) (between_itself stock none sound live)) between)
 
--- ---- what always holds of the fields
-pub kept_settled : (options : Options) (sessions after : List SessionField) (promised : ℕ) (stock now : StockView) → AreKept options sessions promised stock → IsSound stock → (holder : Holder) (births : List ℕ) → sum_by promised_blocks after ≡ sum_by promised_blocks sessions
-    → now ≡ with_left_parked (with_holder stock holder births) → AreKept options after promised now
-kept_settled options sessions after promised stock now kept sound holder births same is =
-    subst (AreKept options after promised) (sym is) (record {
-      in_range = kept.in_range;
-      count = kept.count ∙ sym same;
-      few = kept.few;
-      live = live_between stock (with_holder stock holder births) (between_held stock stock (with_births stock.holdings holder births) (between_itself stock kept.none_left sound kept.live));
-      none_left = refl;
-    })
+-- ---- other locks, and parked blocks and places that move
+pub keeps_locked : (f : Fields) (h : Half) (locks half_locks : NameMap ℕ) → Keeps f h → locks ≡ half_locks → Keeps (record f { locks = locks }) (record h { locks = half_locks })
+keeps_locked f h locks half_locks keeps same = record {
+  options = keeps.options;
+  locks = same;
+  floor = keeps.floor;
+  sessions = keeps.sessions;
+  now = keeps.now;
+  commits = keeps.commits;
+  rows = keeps.rows;
+  notes = keeps.notes;
+  next = keeps.next;
+  held = λ x. keeps.held x ∙ by_kind x;
+  live = keeps.live;
+  contents = keeps.contents;
+  none_left = keeps.none_left;
+}
+  where
+    by_kind : (x : Holder) → held_in h x ≡ held_in (record h { locks = half_locks }) x
+    by_kind (holder.Version row n) = refl
+    by_kind (holder.Session t) = refl
+    by_kind (holder.Promise t) = refl
 
-pub kept_cancelled : (options : Options) (sessions after : List SessionField) (promised blocks : ℕ) (stock now : StockView) → AreKept options sessions promised stock → IsSound stock → (holder : Holder) (births : List ℕ) → sum_by promised_blocks after + blocks ≡ sum_by promised_blocks sessions
-    → now ≡ with_left_parked (with_holder stock holder births) → AreKept options after (promised - blocks) now
-kept_cancelled options sessions after promised blocks stock now kept sound holder births same is =
-    subst (AreKept options after (promised - blocks)) (sym is) (record {
-      in_range = kept.in_range;
-      count = omega (arith, kept.count, same);
-      few = omega (arith, kept.few);
-      live = live_between stock (with_holder stock holder births) (between_held stock stock (with_births stock.holdings holder births) (between_itself stock kept.none_left sound kept.live));
-      none_left = refl;
-    })
+pub keeps_parked : (f : Fields) (h : Half) (parked : List ℕ) → Keeps f h → Keeps (record f { stock = record f.stock { parked = parked } }) h
+keeps_parked f h parked keeps = record {
+  options = keeps.options;
+  locks = keeps.locks;
+  floor = keeps.floor;
+  sessions = keeps.sessions;
+  now = keeps.now;
+  commits = keeps.commits;
+  rows = keeps.rows;
+  notes = keeps.notes;
+  next = keeps.next;
+  held = keeps.held;
+  live = keeps.live;
+  contents = keeps.contents;
+  none_left = keeps.none_left;
+}
+
+moved_contents : (contents : List Content) (xs : List Stocked) (shifts : List Shift) → Each (λ x. content_of contents x.birth ≡ Some x.content) xs → Each (λ x. content_of contents x.birth ≡ Some x.content) (moved_by xs shifts)
+moved_contents contents [] shifts all = tt
+moved_contents contents (x ∷ xs) [] all = all
+moved_contents contents (x ∷ xs) (shift ∷ shifts) all = (all.0, moved_contents contents xs shifts all.1)
+
+pub keeps_shifted : (f : Fields) (h : Half) (shifts : List Shift) → Keeps f h → Keeps (record f { stock = with_shifts f.stock shifts }) h
+keeps_shifted f h shifts keeps = record {
+  options = keeps.options;
+  locks = keeps.locks;
+  floor = keeps.floor;
+  sessions = keeps.sessions;
+  now = keeps.now;
+  commits = keeps.commits;
+  rows = keeps.rows;
+  notes = keeps.notes;
+  next = keeps.next;
+  held = keeps.held;
+  live = live_where_moved f.stock.holdings f.stock.stocked shifts keeps.live;
+  contents =
+      All-from_recursion (λ (x : Stocked). content_of h.contents x.birth ≡ Some x.content) (moved_by f.stock.stocked shifts)
+      (moved_contents h.contents f.stock.stocked shifts (recursion_from_All (λ (x : Stocked). content_of h.contents x.birth ≡ Some x.content) f.stock.stocked keeps.contents));
+  none_left = keeps.none_left;
+}

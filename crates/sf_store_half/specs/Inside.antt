@@ -1,4 +1,5 @@
 -- Words that serve the proofs of the bodies.
+pub mod Answered
 pub mod Fields
 pub mod CutNotes
 pub mod Trials

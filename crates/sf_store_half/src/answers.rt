@@ -8,10 +8,10 @@ ghost use Rattle.sf_store_half.specs.Fields.{Keeps};
 ghost use Rattle.sf_store_half.specs.HalfMoves.{AreStocked, BringsStocked, HasField, IsRepacked, field_at};
 
 use crate::session_fields::{Promised, take_promise};
-use crate::stock_steps::{drop_promise, keep_births};
+use crate::stock_steps::drop_promise;
 use crate::store_half::StoreHalf;
-use sf_types::{Births, Call, Mem, OutOfMemory};
-use sf_versions::{Answer, Ask};
+use sf_types::{Births, Call, Mem};
+use sf_versions::{Answer, Ask, Part};
 
 impl StoreHalf {
     /// The answer to a call that flushes nothing, of a session that holds these births before it. After want of memory nothing
@@ -27,7 +27,17 @@ impl StoreHalf {
         ensures repacked { OnOk result (IsRepacked self.old.stock self.new.stock []) }
         ensures err { OnErr result (self.new ≡ self.old) }
     {
-        Err(OutOfMemory)
+        let Ask { call, part, kept } = ask;
+        match part {
+            Part::Known(fault) => self.answer_known(session, births, fault),
+            Part::Working => self.answer_working(session, &call, kept),
+            Part::Current => self.answer_row(session, births, &call, kept),
+            Part::Unlock(rows) => self.answer_unlock(session, &rows, kept),
+            Part::Commit(changes) => self.answer_commit(session, changes, kept),
+            Part::Rollback => self.answer_rollback(session, kept),
+            Part::End => self.answer_end(session),
+            Part::Settle(_) => self.answer_settle(session, births),
+        }
     }
 
     /// A session holds these births from now on. After want of memory nothing has changed.
@@ -38,8 +48,9 @@ impl StoreHalf {
         ensures repacked { OnOk result (IsRepacked self.old.stock self.new.stock []) }
         ensures err { OnErr result (self.new ≡ self.old) }
     {
-        self.stock.make_room(births.as_slice().len() as u64)?;
-        keep_births(&mut self.stock, session, births);
+        let is_open = self.is_open(session);
+        let has_ended = self.has_ended(session);
+        self.settle(session, births, is_open, has_ended)?;
         Ok(())
     }
 

@@ -29,3 +29,23 @@ pub fn take_promise(fields: &mut Vec<SessionField>, session: u16) -> Option<Prom
 {
     fields[usize::from(session) - 1].promise.take()
 }
+
+// What is kept of a session, which is one of these.
+pub fn field_of(fields: &[SessionField], session: u16) -> &SessionField
+    requires low { 1 ≤ session }
+    requires high { session ≤ length fields.now }
+    ensures { result.now ≡ unwrap_or (slice_get fields.now (session - 1)) (session_field new_kept) }
+{
+    &fields[usize::from(session) - 1]
+}
+
+// From now on the transaction of a session, which is one of these, is open, and the session has ended, or not.
+pub fn set_field(fields: &mut Vec<SessionField>, session: u16, is_open: bool, has_ended: bool)
+    requires low { 1 ≤ session }
+    requires high { session ≤ length fields.old.items }
+    ensures { fields.new.items ≡ slice_set fields.old.items (session - 1) (record (unwrap_or (slice_get fields.old.items (session - 1)) (session_field new_kept)) { is_open = is_open; has_ended = has_ended }) }
+{
+    let field = &mut fields[usize::from(session) - 1];
+    field.is_open = is_open;
+    field.has_ended = has_ended;
+}

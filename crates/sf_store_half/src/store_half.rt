@@ -61,7 +61,15 @@ impl Model for StoreHalf {
       stock = x.stock.held;
     } };
 
-    ghost invariant = { λ x. AreKept x.options x.sessions.items x.promised x.stock.held };
+    ghost invariant = { λ x. AreKept (record {
+      options = x.options;
+      locks = x.locks.held;
+      versions = x.versions.held;
+      notes = x.notes.held;
+      floor = x.floor;
+      sessions = x.sessions.items;
+      stock = x.stock.held;
+    }) x.promised };
 }
 
 impl StoreHalf {
@@ -94,6 +102,22 @@ impl StoreHalf {
         ensures { result ≡ self.now.options.capacity }
     {
         self.options.capacity
+    }
+
+    /// Whether all sessions have ended.
+    pub fn all_ended(&self) -> bool
+        ensures { result ≡ list_all (λ field. field.has_ended) self.now.sessions }
+    {
+        self.sessions.iter().all(|field| field.has_ended)
+    }
+
+    /// The number of free blocks, which is one subtraction.
+    pub fn free(&self) -> u64
+        ensures { (h : Half) → Keeps self.now h → result ≡ half_free h }
+    {
+        let _sound = self.stock.next_birth();
+        let used = self.stock.live_blocks() + self.promised;
+        u64::from(self.options.capacity).saturating_sub(used)
     }
 
     /// The number of parked blocks.

@@ -7,26 +7,22 @@ use Rattle.sf_stock.specs.Stocks.{StockView, IsSound, with_holder, with_left_par
 use Rattle.sf_store_half.specs.Fields.{Fields, Keeps, session_field}
 use Rattle.sf_store_half.specs.HalfMoves.{HasField, IsRepacked}
 use Rattle.sf_store_half.specs.declared.session_fields.SessionField.{SessionField}
-use Rattle.sf_store_half.proofs.SettledLemmas.{promise_taken, kept_cancelled, keeps_cancelled, has_session, field_is, repacked_by}
+use Rattle.sf_store_half.specs.contracts.store_half.StoreHalf.{the_view}
+use Rattle.sf_store_half.proofs.SetLemmas.{kept_cancelled}
+use Rattle.sf_store_half.proofs.SettledLemmas.{promise_taken, keeps_cancelled, has_session, field_is, repacked_by}
 use Rattle.sf_store_half.proofs.store_half.StoreHalf.cancel.Goals as goal
 
 pub overflow_sub-self : goal.overflow_sub-self
 overflow_sub-self c =
-    let taken = promise_taken c.self.inside.sessions.items c.take_promise.new.fields.items c.args.session c.in-Some.promised
-    (subst (λ (x : Fields). HasField x c.args.session) (sym c.self.view_is) c.requires.session).low
-    (subst (λ (x : Fields). HasField x c.args.session) (sym c.self.view_is) c.requires.session).high
-    (sym c.take_promise.ensures.promise ∙ c.in-Some.is) c.take_promise.ensures.fields in
+    let has = subst (λ (x : Fields). HasField x c.args.session) (sym c.self.view_is) c.requires.session in
+    let taken = promise_taken c.self.inside.sessions.items c.take_promise.new.fields.items c.args.session c.in-Some.promised has.low has.high (sym c.take_promise.ensures.promise ∙ c.in-Some.is) c.take_promise.ensures.fields in
     omega (arith, taken, c.self.invariant.count)
 
 pub invariant_of-self : goal.invariant_of-self
 invariant_of-self c =
-    let f = c.self.inside in
-    let taken = promise_taken c.self.inside.sessions.items c.take_promise.new.fields.items c.args.session c.in-Some.promised
-    (subst (λ (x : Fields). HasField x c.args.session) (sym c.self.view_is) c.requires.session).low
-    (subst (λ (x : Fields). HasField x c.args.session) (sym c.self.view_is) c.requires.session).high
-    (sym c.take_promise.ensures.promise ∙ c.in-Some.is) c.take_promise.ensures.fields in
-    kept_cancelled f.options f.sessions.items c.take_promise.new.fields.items f.promised c.in-Some.promised.blocks f.stock.held c.drop_promise.new.stock.held c.self.invariant c.drop_promise.ensures.sound
-    (holder.Promise c.args.session) [] taken c.drop_promise.ensures.held
+    let has = subst (λ (x : Fields). HasField x c.args.session) (sym c.self.view_is) c.requires.session in
+    kept_cancelled (the_view c.self.inside) c.self.inside.promised c.args.session c.in-Some.promised c.take_promise.new.fields.items c.drop_promise.new.stock.held c.self.invariant has
+    c.drop_promise.ensures.sound (sym c.take_promise.ensures.promise ∙ c.in-Some.is) c.take_promise.ensures.fields c.drop_promise.ensures.held
 
 pub returns-clause-kept : goal.returns-clause-kept
 returns-clause-kept c h keeps =
@@ -46,4 +42,4 @@ pub returns-clause-repacked : goal.returns-clause-repacked
 returns-clause-repacked c =
     let f = c.self.inside in
     subst (λ (x : Fields). IsRepacked x.stock c.drop_promise.new.stock.held []) c.self.view_is
-    (repacked_by f.stock.held c.drop_promise.new.stock.held (holder.Promise c.args.session) [] c.self.invariant.none_left c.self.invariant.live c.drop_promise.ensures.sound c.drop_promise.ensures.between c.drop_promise.ensures.held)
+    (repacked_by f.stock.held c.drop_promise.new.stock.held (holder.Promise c.args.session) [] c.self.invariant.keeps.none_left c.self.invariant.keeps.live c.drop_promise.ensures.sound c.drop_promise.ensures.between c.drop_promise.ensures.held)
