@@ -1,5 +1,5 @@
 -- What the kept versions of a row tell: what it holds, and that their births have places.
-use Rattle.std.proofs.Common.{◌≡◌, ℕ, zero, suc, ◌+◌, ◌-◌, ◌≤◌, ◌<◌, Bool, true, false, cond, List, [], ◌∷◌, length, take, drop, Option, Some, None, refl, sym, ap, subst, ◌∙◌, arith, ◌++◌}
+use Rattle.std.proofs.Common.{◌≡◌, ℕ, zero, suc, ◌+◌, ◌-◌, ◌≤◌, true, false, cond, List, [], ◌∷◌, length, take, drop, Option, Some, None, refl, sym, ap, subst, ◌∙◌, arith, ◌++◌}
 use Rattle.std.specs.Prelude.{All, nat_le, ◌&&◌, is_none, filter, slice_get, slice_index_or}
 use Rattle.std.specs.Option.{option_map, option_map_or}
 use Rattle.std.proofs.lemmas.List.Elements.{All-from_recursion, All-nil, recursion_from_All}
@@ -25,9 +25,8 @@ use Rattle.sf_types.specs.Table.Parts.{Rows, Table}
 use Rattle.sf_types.specs.Table.Versions.{last_change, later_change, value_or_absent}
 use Rattle.sf_types.specs.Space.Reach.{is_kept}
 use Rattle.sf_types.specs.Halves.Flushes.{table_of_half}
-use Rattle.sf_types.proofs.VersionLemmas.{last_change-append, none_before}
+use Rattle.sf_types.proofs.VersionLemmas.{none_before}
 use Rattle.sf_laws.proofs.PositionLemmas.{at_drop}
-use Rattle.sf_lifetimes.proofs.LedgerLemmas.{is_at}
 use Rattle.sf_versions.specs.VersionTables.{versions_of}
 use Rattle.sf_versions.proofs.TableLemmas.{last_up_to}
 

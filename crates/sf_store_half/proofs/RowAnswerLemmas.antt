@@ -1,9 +1,8 @@
 -- Answers to row calls whose row the store looks up.
-use Rattle.std.proofs.Common.{◌≡◌, ℕ, Bool, true, false, cond, not, ◌&&◌, List, [], ◌∷◌, Option, Some, None, refl, sym, ap, subst, ◌∙◌}
-use Rattle.std.specs.Prelude.{Result, ◌==◌, is_none, is_some, unwrap_or}
+use Rattle.std.proofs.Common.{◌≡◌, ℕ, Bool, true, false, not, List, [], ◌∷◌, Option, Some, None, refl, sym, ap, ◌∙◌, length, take}
+use Rattle.std.specs.Prelude.{nat_lt, Result, ◌==◌, is_none, is_some, unwrap_or}
 use Rattle.std.specs.Option.{option_map, option_map_or}
 use Rattle.sf_types.specs.declared.call.Call.TheVariants as call
-use Rattle.sf_types.specs.declared.reply.Fault.{Fault}
 use Rattle.sf_types.specs.declared.reply.Fault.TheVariants as fault
 use Rattle.sf_types.specs.Inside.NameMaps.{NameMap, get}
 use Rattle.sf_types.specs.Values.Marks.{Value, empty_value}
@@ -87,6 +86,23 @@ module _ (h : Half) (s : ℕ) (births kept : List ℕ) where
 
   pub given_some : (v : Value) → is_session h s ≡ true → answer_given (with_kept_births h s births) s kept (Some v) ≡ (with_kept_births h s (births_with kept v), rule.Given v)
   given_some v is = replaced (λ put k. (record h { sessions = put (record k { births = births_with kept v }) }, rule.Given v)) h s births is
+
+-- ---- what a row held
+module _ (h : Half) (s : ℕ) (births : List ℕ) (to row kept : List ℕ) (n : ℕ) where
+  abbrev earlier : Bool → Bool → Half × rule.Answer
+  earlier future old =
+      let value = value_or_absent (last_change (take n h.commits) row) in
+      let given = unwrap_or value empty_value in
+      answer_or (first_refusal ((future, fault.FutureCommit) ∷ (old, fault.TooOld) ∷ (is_none value, fault.NoSuchRow) ∷ [])) (with_kept_births h s births) (with_kept_births (with_kept_births h s births) s (births_with kept given), rule.Given given)
+
+  pub as_of_future : nat_lt (length h.commits) n ≡ true → row_answer (with_kept_births h s births) s (call.SelectAsOf to row n) kept ≡ (with_kept_births h s births, rule.Refused fault.FutureCommit)
+  as_of_future future = ap (λ b. earlier b (nat_lt n h.floor)) future
+
+  pub as_of_old : nat_lt (length h.commits) n ≡ false → nat_lt n h.floor ≡ true → row_answer (with_kept_births h s births) s (call.SelectAsOf to row n) kept ≡ (with_kept_births h s births, rule.Refused fault.TooOld)
+  as_of_old future old = ap (λ b. earlier b (nat_lt n h.floor)) future ∙ ap (earlier false) old
+
+  pub as_of_given : nat_lt (length h.commits) n ≡ false → nat_lt n h.floor ≡ false → row_answer (with_kept_births h s births) s (call.SelectAsOf to row n) kept ≡ answer_given (with_kept_births h s births) s kept (value_or_absent (last_change (take n h.commits) row))
+  as_of_given future old = ap (λ b. earlier b (nat_lt n h.floor)) future ∙ ap (earlier false) old
 
 -- whether another session holds a lock
 pub busy_is : (locks : NameMap ℕ) (s : ℕ) (row : List ℕ) (o : Option ℕ) → get locks row ≡ o → option_map_or (λ holder. not (holder == s)) o false ≡ is_busy locks s row

@@ -1,5 +1,5 @@
 //! Answers to row calls whose row the store looks up.
-ghost use Rattle.std.specs.Prelude.{◌≡◌, [], true, false, is_some, IfOk, OnOk, OnErr};
+ghost use Rattle.std.specs.Prelude.{◌≡◌, [], true, false, nat_lt, is_some, IfOk, OnOk, OnErr};
 ghost use Rattle.std.specs.Option.{option_copied, option_map};
 ghost use Rattle.sf_types.specs.declared.call.Call.TheVariants as call;
 ghost use Rattle.sf_types.specs.Table.Sessions.{is_busy, with_lock};
@@ -7,7 +7,7 @@ ghost use Rattle.sf_types.specs.Halves.Asks.{Half, births_with, half_answer, row
 ghost use Rattle.sf_types.specs.Halves.Asks as rule;
 ghost use Rattle.sf_types.specs.Table.Versions.{last_change, value_or_absent};
 ghost use Rattle.sf_stock.specs.Stocks.{is_stocked};
-ghost use Rattle.sf_versions.specs.RowChanges.{last_value};
+ghost use Rattle.sf_versions.specs.RowChanges.{change_up_to, last_value};
 ghost use Rattle.sf_versions.specs.VersionTables.{versions_of};
 ghost use Rattle.sf_store_half.specs.Fields.{Keeps};
 ghost use Rattle.sf_store_half.specs.HalfMoves.{AreStocked, HasField, IsRepacked};
@@ -18,7 +18,7 @@ use crate::stock_steps::keep_births;
 use crate::store_half::StoreHalf;
 use sf_birth_union::BirthUnion;
 use sf_chunk_map::Map;
-use sf_types::{Births, Call, Fault, LocName, Mem, Name, OutOfMemory, TryCopy};
+use sf_types::{Births, Call, Fault, LocName, Mem, Name, TryCopy};
 use sf_versions::Answer;
 use std::alloc::Global;
 
@@ -109,7 +109,9 @@ impl StoreHalf {
             Call::Delete { row } => self.answer_delete(session, births, row, kept),
             Call::Select { row, .. } => self.answer_select(session, births, row, kept),
             Call::Lock { to, row } => self.answer_lock(session, births, to, row, kept),
-            Call::SelectAsOf { .. } => Err(OutOfMemory),
+            Call::SelectAsOf { to, row, commit } => {
+                self.answer_as_of(session, births, to, row, *commit, kept)
+            }
             _ => self.answer_settle(session, births),
         }
     }
@@ -203,6 +205,53 @@ impl StoreHalf {
     {
         let _sound = self.stock.next_birth();
         let found = self.current_twice(row)?;
+        self.give(session, births, found, kept)
+    }
+
+    // Whether a commit is yet to be made.
+    fn is_future(&self, commit: u64) -> bool
+        ensures { result ≡ nat_lt self.now.versions.now commit }
+    {
+        self.versions.now() < commit
+    }
+
+    // Whether a commit is below the floor.
+    fn is_old(&self, commit: u64) -> bool
+        ensures { result ≡ nat_lt commit self.now.floor }
+    {
+        commit < self.floor
+    }
+
+    // What a row held after so many commits, twice, where it was present.
+    fn earlier_twice(&self, row: &Name, commit: u64) -> Mem<Option<(Map, Map)>>
+        ensures { IfOk result (λ found. found ≡ twice (value_or_absent (change_up_to (versions_of self.now.versions.rows row.now) commit))) }
+    {
+        twice(self.versions.at(row, commit))
+    }
+
+    // A SelectAsOf of a row.
+    fn answer_as_of(
+        &mut self,
+        session: u16,
+        births: Births,
+        _to: &LocName,
+        row: &Name,
+        commit: u64,
+        kept: Births,
+    ) -> Mem<Answer>
+        requires session { HasField self.old session }
+        requires births { AreStocked self.old births }
+        requires kept { AreStocked self.old kept }
+        ensures { IsAnswered self.old self.new (λ h. row_answer (with_kept_births h session births) session (call.SelectAsOf _to.now row.now commit) kept) result }
+    {
+        if self.is_future(commit) {
+            return self.answer_known(session, births, Fault::FutureCommit);
+        }
+        if self.is_old(commit) {
+            return self.answer_known(session, births, Fault::TooOld);
+        }
+        let _sound = self.stock.next_birth();
+        let found = self.earlier_twice(row, commit)?;
         self.give(session, births, found, kept)
     }
 

@@ -1,22 +1,19 @@
-use Rattle.std.proofs.Common.{◌≡◌, ℕ, List, Option, Some, None, true, false, ap, sym, subst, ◌∙◌, refl}
+use Rattle.std.proofs.Common.{◌≡◌, ℕ, List, true, ap, sym, subst, ◌∙◌}
 use Rattle.std.specs.Prelude.{All}
-use Rattle.std.specs.Option.{option_map}
 use Rattle.sf_types.specs.declared.call.Call.TheVariants as call
 use Rattle.sf_types.specs.declared.reply.Fault.TheVariants as fault
-use Rattle.sf_types.specs.Values.Marks.{Value}
 use Rattle.sf_types.specs.Table.Sessions.{is_busy, with_lock}
-use Rattle.sf_types.specs.Table.Versions.{last_change, value_or_absent}
 use Rattle.sf_types.specs.Halves.Asks.{Half, births_with, row_answer, with_kept_births, with_kept_births_open}
 use Rattle.sf_types.specs.Halves.Asks as rule
 use Rattle.sf_stock.specs.Stocks.{is_stocked}
 use Rattle.sf_versions.specs.RowChanges.{last_value}
 use Rattle.sf_versions.specs.VersionTables.{versions_of}
 use Rattle.sf_store_half.specs.Fields.{Fields, Keeps}
-use Rattle.sf_store_half.specs.Inside.Answered.{OfValue, answer_given, twice}
+use Rattle.sf_store_half.specs.Inside.Answered.{OfValue}
 use Rattle.sf_store_half.specs.contracts.store_half.StoreHalf.{the_view}
 use Rattle.sf_store_half.proofs.KeptRowLemmas.{current_stocked, holds_now, with_stocked}
 use Rattle.sf_store_half.proofs.SettledLemmas.{has_session}
-use Rattle.sf_store_half.proofs.RowAnswerLemmas.{answered_by, first_of_twice, given_some, lock_none, lock_done, twice_none, twice_some}
+use Rattle.sf_store_half.proofs.RowAnswerLemmas.{answered_by, lock_none, lock_done, twice_none, twice_some}
 use Rattle.sf_store_half.proofs.store_half.StoreHalf.answer_lock.Goals as goal
 
 pub returns-in_default : goal.returns-in_default
