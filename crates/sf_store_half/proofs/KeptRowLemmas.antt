@@ -1,30 +1,34 @@
 -- What the kept versions of a row tell: what it holds, and that their births have places.
-use Rattle.std.proofs.Common.{◌≡◌, ℕ, zero, suc, ◌+◌, ◌-◌, ◌≤◌, ◌<◌, Bool, true, false, cond, List, [], ◌∷◌, length, take, drop, Option, Some, None, refl, sym, ap, subst, ◌∙◌, arith}
-use Rattle.std.specs.Prelude.{nat_le, ◌&&◌, is_none, is_some, filter, slice_get, slice_index_or}
-use Rattle.std.specs.List.{AllByRecursion as Each}
+use Rattle.std.proofs.Common.{◌≡◌, ℕ, zero, suc, ◌+◌, ◌-◌, ◌≤◌, true, false, cond, List, [], ◌∷◌, length, take, drop, Option, Some, None, refl, sym, ap, subst, ◌∙◌, arith, ◌++◌}
+use Rattle.std.specs.Prelude.{All, nat_le, ◌&&◌, is_none, filter, slice_get, slice_index_or}
 use Rattle.std.specs.Option.{option_map, option_map_or}
+use Rattle.std.proofs.lemmas.List.Elements.{All-from_recursion, All-nil, recursion_from_All}
+use Rattle.sf_types.specs.Values.Marks.{Value, births_in}
+use Rattle.sf_types.specs.Halves.Asks.{Half, births_with}
+use Rattle.sf_laws.proofs.EachLemmas.{each_weaker, each-append}
+use Rattle.sf_laws.proofs.ReachLemmas.{each-rising, kept_by_later}
+use Rattle.sf_lifetimes.specs.Ledgers.{has_birth, held_by}
+use Rattle.sf_stock.specs.Stocks.{IsSound, is_stocked}
+use Rattle.sf_versions.specs.RowChanges.{RowChanges, RiseWithin, change_up_to, changes_of, last_value}
+use Rattle.sf_store_half.specs.Fields.{Fields, Keeps, kept_versions, version_births}
+use Rattle.sf_store_half.specs.Inside.Answered.{OfValue}
+use Rattle.sf_store_half.proofs.LiveLemmas.{holder_live}
+use Rattle.sf_store_half.proofs.StockReachLemmas.{holds_itself}
+use Rattle.std.specs.List.{AllByRecursion as Each}
 use Rattle.std.proofs.lemmas.Bool.Decides.{nat_tests}
 use Rattle.std.proofs.lemmas.List.{take_all}
 use Rattle.std.proofs.lemmas.Option.{get_or_from_slice_get}
+use Rattle.sf_types.specs.declared.holder.Holder.{Holder}
 use Rattle.sf_types.specs.declared.holder.Holder.TheVariants as holder
 use Rattle.sf_types.specs.Inside.NameMaps.{get}
-use Rattle.sf_types.specs.Values.Marks.{Value, births_in}
 use Rattle.sf_types.specs.Table.Parts.{Rows, Table}
 use Rattle.sf_types.specs.Table.Versions.{last_change, later_change, value_or_absent}
 use Rattle.sf_types.specs.Space.Reach.{is_kept}
-use Rattle.sf_types.specs.Halves.Asks.{Half}
 use Rattle.sf_types.specs.Halves.Flushes.{table_of_half}
-use Rattle.sf_types.proofs.VersionLemmas.{last_change-append, none_before}
+use Rattle.sf_types.proofs.VersionLemmas.{none_before}
 use Rattle.sf_laws.proofs.PositionLemmas.{at_drop}
-use Rattle.sf_laws.proofs.ReachLemmas.{kept_by_later}
-use Rattle.sf_lifetimes.specs.Ledgers.{held_by, is_live}
-use Rattle.sf_lifetimes.proofs.LedgerLemmas.{is_at}
-use Rattle.sf_stock.specs.Stocks.{IsSound, is_stocked}
-use Rattle.sf_versions.specs.RowChanges.{RowChanges, RiseWithin, change_up_to, changes_of, last_value, last_version}
 use Rattle.sf_versions.specs.VersionTables.{versions_of}
 use Rattle.sf_versions.proofs.TableLemmas.{last_up_to}
-use Rattle.sf_store_half.specs.Fields.{Fields, Keeps, kept_versions, version_births}
-use Rattle.sf_store_half.proofs.LiveLemmas.{holder_live}
 
 -- ---- what the row held after so many commits
 none_of : (m : ℕ) → take {A = Rows} m [] ≡ []
@@ -144,3 +148,54 @@ holds_now f h row keeps =
     ap last_value (keeps.rows row)
     ∙ ap value_or_absent (sym (last_up_to 0 n (kept_versions h row) (changes_within (table_of_half h) row 0 h.commits 0 n (omega arith) (omega arith))))
     ∙ ap value_or_absent (kept_up_to (table_of_half h) row n 0 h.commits (omega arith) refl ∙ ap (λ m. last_change (take m h.commits) row) (none_off n) ∙ ap (λ (cs : List Rows). last_change cs row) (take_all n h.commits (omega arith)))
+
+-- ---- the births of versions have places
+abbrev HasPlace : Fields → ℕ → Type 0
+HasPlace f b = is_stocked f.stock.stocked b ≡ true
+
+held_stocked : (f : Fields) (x : Holder) → IsSound f.stock → Each (HasPlace f) (held_by f.stock.holdings x)
+held_stocked f x sound =
+    each_weaker (λ b. has_birth (held_by f.stock.holdings x) b ≡ true) (HasPlace f) (held_by f.stock.holdings x) (λ b is. sound.held b (holder_live f.stock.holdings x b is)) (holds_itself (held_by f.stock.holdings x))
+
+version_stocked : (f : Fields) (h : Half) (row : List ℕ) (n : ℕ) (change : Option Value) → Keeps f h → IsSound f.stock → 1 ≤ n → is_kept (table_of_half h) row n ≡ true → get (slice_index_or h.commits (n - 1) []) row ≡ Some change
+    → OfValue (HasPlace f) change
+version_stocked f h row n change keeps sound low kept is =
+    let first : nat_le 1 n ≡ true = grind (arith, nat_tests) in
+    let own : version_births h row n ≡ option_map_or births_in change [] =
+    ap (λ t. cond t (option_map_or births_in (value_or_absent (get (slice_index_or h.commits (n - 1) []) row)) []) []) (ap (λ t. t && is_kept (table_of_half h) row n) first ∙ kept)
+    ∙ ap (λ (o : Option (Option Value)). option_map_or births_in (value_or_absent o) []) is in
+    All-from_recursion (HasPlace f) (option_map_or births_in change []) (subst (Each (HasPlace f)) (keeps.held (holder.Version row n) ∙ own) (held_stocked f (holder.Version row n) sound))
+
+all_stocked : (f : Fields) (h : Half) (row : List ℕ) → Keeps f h → IsSound f.stock → Each (λ v. OfValue (HasPlace f) v.1) (versions_of f.versions.rows row)
+all_stocked f h row keeps sound =
+    subst (Each (λ v. OfValue (HasPlace f) v.1)) (sym (keeps.rows row))
+    (versions_are (table_of_half h) row (λ v. OfValue (HasPlace f) v.1) 0 h.commits refl (λ n change low kept is. version_stocked f h row n change keeps sound low kept is))
+
+none_named : (P : ℕ → Type 0) → OfValue P None
+none_named P = All-nil P
+
+up_to_holds : (P : ℕ → Type 0) (vs : RowChanges) (n : ℕ) → Each (λ v. OfValue P v.1) vs → OfValue P (value_or_absent (change_up_to vs n))
+up_to_holds P [] n all = none_named P
+up_to_holds P (v ∷ vs) n all =
+    let rest = up_to_holds P vs n all.1 in
+    elim (change_up_to vs n) as (λ o. OfValue P (value_or_absent o) → OfValue P (value_or_absent (later_change (cond (nat_le v.0 n) (Some v.1) None) o))) [
+      | Some x ↦ λ there. there
+      | None ↦ λ _. elim (nat_le v.0 n) as (λ t. OfValue P (value_or_absent (cond t (Some v.1) None))) [ true ↦ all.0 | false ↦ none_named P ]
+    ] rest
+
+at_holds : (P : ℕ → Type 0) (vs : RowChanges) (i : ℕ) → Each (λ v. OfValue P v.1) vs → OfValue P (value_or_absent (option_map (λ v. v.1) (slice_get vs i)))
+at_holds P [] i all = none_named P
+at_holds P (v ∷ vs) zero all = all.0
+at_holds P (v ∷ vs) (suc i) all = at_holds P vs i all.1
+
+pub current_stocked : (f : Fields) (h : Half) (row : List ℕ) → Keeps f h → IsSound f.stock → OfValue (HasPlace f) (last_value (versions_of f.versions.rows row))
+current_stocked f h row keeps sound = at_holds (HasPlace f) (versions_of f.versions.rows row) (length (versions_of f.versions.rows row) - 1) (all_stocked f h row keeps sound)
+
+pub earlier_stocked : (f : Fields) (h : Half) (row : List ℕ) (n : ℕ) → Keeps f h → IsSound f.stock → OfValue (HasPlace f) (value_or_absent (change_up_to (versions_of f.versions.rows row) n))
+earlier_stocked f h row n keeps sound = up_to_holds (HasPlace f) (versions_of f.versions.rows row) n (all_stocked f h row keeps sound)
+
+-- births with those of a value
+pub with_stocked : (P : ℕ → Type 0) (births : List ℕ) (v : Value) → All P births → OfValue P (Some v) → All P (births_with births v)
+with_stocked P births v all named =
+    All-from_recursion P (births_with births v)
+    (each-rising P (births ++ births_in v) (each-append P births (births_in v) (recursion_from_All P births all) (recursion_from_All P (births_in v) named)))

@@ -26,7 +26,7 @@ both_ways false true to from = from refl
 both_ways false false to from = refl
 
 -- what holds of each birth of a list
-holds_itself : (bs : List ℕ) → Each (λ b. has_birth bs b ≡ true) bs
+pub holds_itself : (bs : List ℕ) → Each (λ b. has_birth bs b ≡ true) bs
 holds_itself bs = go bs (λ b is. is)
   where
     go : (cs : List ℕ) → ((b : ℕ) → has_birth cs b ≡ true → has_birth bs b ≡ true) → Each (λ b. has_birth bs b ≡ true) cs

@@ -1,13 +1,10 @@
-use Rattle.std.proofs.Common.{◌≡◌, ℕ, List, Option, Some, None, true, false, ap, sym, subst, ◌∙◌, refl}
+use Rattle.std.proofs.Common.{◌≡◌, true, ap, sym, subst, ◌∙◌}
 use Rattle.std.specs.Prelude.{is_some}
-use Rattle.std.specs.Option.{option_map}
 use Rattle.sf_types.specs.declared.call.Call.TheVariants as call
 use Rattle.sf_types.specs.declared.reply.Fault.TheVariants as fault
-use Rattle.sf_types.specs.Values.Marks.{Value}
 use Rattle.sf_types.specs.Table.Sessions.{is_busy, with_lock}
 use Rattle.sf_types.specs.Halves.Asks.{Half, row_answer, with_kept_births, with_kept_births_open}
 use Rattle.sf_types.specs.Halves.Asks as rule
-use Rattle.sf_versions.specs.Asks.{IsAnswer}
 use Rattle.sf_store_half.specs.Fields.{Keeps}
 use Rattle.sf_store_half.proofs.KeptRowLemmas.{holds_now}
 use Rattle.sf_store_half.proofs.SettledLemmas.{has_session}
