@@ -22,5 +22,6 @@ pub mod SettledLemmas
 pub mod StockLemmas
 pub mod StockReachLemmas
 pub mod TrialLemmas
+pub mod TriedHalfLemmas
 pub mod TriedLemmas
 pub mod VersionHoldLemmas

@@ -24,7 +24,7 @@ use Rattle.sf_store_half.proofs.NoteLemmas.{due_are, is_noted, notes_between, no
 use Rattle.sf_store_half.proofs.RaisedLemmas.{IsRaised, raised}
 use Rattle.sf_store_half.proofs.VersionHoldLemmas.{births_of_version, version_held}
 
-same_holdings : (s : StockView) (ps : List Pair) → (stock_without s ps).holdings ≡ holdings_without s.holdings ps
+pub same_holdings : (s : StockView) (ps : List Pair) → (stock_without s ps).holdings ≡ holdings_without s.holdings ps
 same_holdings s [] = refl
 same_holdings s (p ∷ ps) = same_holdings (with_holder s (holder.Version p.name p.from) []) ps
 
@@ -86,7 +86,7 @@ module _ (f : Fields) (h : Half) (floor : ℕ) (keeps : Keeps f h) (low : h.floo
       (λ row. keeps.rows row ∙ kept_is h row (omega (arith, low, high)))
       (λ row n. keeps.held (holder.Version row n) ∙ version_held h row n ∙ ap (λ vs. births_of_version vs n) (sym (keeps.rows row)))))
 
-  held_raised : (x : Holder) → held_by (stock_without f.stock (due_pairs f.notes floor)).holdings x ≡ held_in (half_at h floor) x
+  pub held_raised : (x : Holder) → held_by (stock_without f.stock (due_pairs f.notes floor)).holdings x ≡ held_in (half_at h floor) x
   held_raised x = ap (λ m. held_by m x) (same_holdings f.stock (due_pairs f.notes floor)) ∙ by_kind x
     where
       by_kind : (y : Holder) → held_by (holdings_without f.stock.holdings (due_pairs f.notes floor)) y ≡ held_in (half_at h floor) y

@@ -1,6 +1,8 @@
 -- What would be in reach once holders were given up and a session held other births (our own).
 use Rattle.std.specs.Prelude.{◌≡◌, ℕ, Bool, not, ◌&&◌, ◌||◌, List, filter}
 use Rattle.sf_types.specs.declared.holder.Holder.{Holder}
+use Rattle.sf_types.specs.declared.holder.Holder.TheVariants as holder
+use Rattle.sf_retention.specs.declared.retention.Pair.{Pair}
 use Rattle.sf_lifetimes.specs.Ledgers.{Holdings, GivenUpView, freed_by, has_birth, is_live, without_holders}
 use Rattle.sf_stock.specs.Stocks.{Stocked, StockView, freed_blocks}
 
@@ -20,3 +22,7 @@ kept_alone stock holders births x = not (is_live (without_holders stock.holdings
 pub record IsGivenUpOf (stock : StockView) (given : GivenUpView) : Type 0 where
   pub holdings : given.ledger.holdings ≡ stock.holdings
   pub freed : (holders : List Holder) → freed_by given.ledger holders ≡ freed_blocks stock holders
+
+-- The holder that a given up version is.
+abbrev pub version_of : Pair → Holder
+version_of p = holder.Version p.name p.from
