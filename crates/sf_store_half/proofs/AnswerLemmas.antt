@@ -5,7 +5,7 @@ use Rattle.sf_types.specs.declared.call.Call.{Call}
 use Rattle.sf_types.specs.Table.Parts.{Rows}
 use Rattle.sf_types.specs.Table.Sessions.{without_locks}
 use Rattle.sf_types.specs.Calls.TransactionEnds.{floor_after}
-use Rattle.sf_types.specs.Halves.Asks.{Half, Kept, Request, Working, Unlock, Commits, RollsBack, Ends, half_answer, kept_at, opens, with_kept, with_kept_births, without_row_locks}
+use Rattle.sf_types.specs.Halves.Asks.{Half, Kept, Request, Working, Unlock, Commits, RollsBack, Ends, half_answer, kept_at, opens, with_kept, with_kept_births, with_kept_births_open, without_row_locks}
 use Rattle.sf_types.specs.Halves.Asks as rule
 use Rattle.sf_versions.specs.declared.asks.Answer.{Answer}
 use Rattle.sf_versions.specs.Asks.{IsAnswer}
@@ -41,6 +41,13 @@ module _ (h : Half) (s : ℕ) (births kept : List ℕ) (c : Call) (is : is_sessi
       replaced (λ put k. cond k.is_open
       (record h { sessions = put (record k { births = kept; is_open = false }); commits = h.commits ++ rows ∷ []; floor = floor_after h.options h.floor (length h.commits + 1); locks = without_locks h.locks s }, rule.Committed (length h.commits + 1))
       (record h { sessions = put (record k { births = kept }) }, rule.Committed (length h.commits))) h s births is
+
+-- a commit where no transaction is open
+pub closed_commit : (h : Half) (s : ℕ) (c : Call) (rows : Rows) (kept : List ℕ) → (kept_at h s).is_open ≡ false → half_answer h s c (Commits rows) kept ≡ (with_kept_births h s kept, rule.Committed (length h.commits))
+closed_commit h s c rows kept closed =
+    ap (λ b. cond b
+    (record (with_kept_births_open h s kept false) { commits = h.commits ++ rows ∷ []; floor = floor_after h.options h.floor (length h.commits + 1); locks = without_locks h.locks s }, rule.Committed (length h.commits + 1))
+    (with_kept_births h s kept, rule.Committed (length h.commits))) closed
 
 -- ---- an answer by an equal step
 on_ok : {R E : Type 0} (r : Result R E) (P Q : Type 0) → (P → Q) → OnOk r P → OnOk r Q

@@ -6,7 +6,7 @@ ghost use Rattle.sf_types.specs.Table.Sessions.{without_locks};
 ghost use Rattle.sf_types.specs.Values.Marks.{births_in};
 ghost use Rattle.sf_types.specs.Space.Reach.{values_in};
 ghost use Rattle.sf_types.specs.declared.call.Call.TheVariants as call;
-ghost use Rattle.sf_store_half.specs.HalfMoves.{AreStocked, HasField};
+ghost use Rattle.sf_store_half.specs.HalfMoves.{AreStocked, HasField, field_at};
 ghost use Rattle.sf_store_half.specs.Inside.Answered.{IsAnswered, kept_as};
 
 use crate::store_half::StoreHalf;
@@ -93,7 +93,7 @@ impl StoreHalf {
         Err(OutOfMemory)
     }
 
-    // A commit.
+    // A commit, which does no more than forget the savepoints where no transaction is open.
     pub(crate) fn answer_commit(
         &mut self,
         session: u16,
@@ -101,6 +101,22 @@ impl StoreHalf {
         kept: Births,
     ) -> Mem<Answer>
         requires session { HasField self.old session }
+        requires kept { AreStocked self.old kept }
+        requires named { AreStocked self.old (flat_map births_in (values_in changes)) }
+        ensures { IsAnswered self.old self.new (λ h. half_answer h session call.Commit (rule.Commits changes) kept) result }
+    {
+        if self.is_open(session) {
+            return self.commit(session, changes, kept);
+        }
+        let count = self.now();
+        self.note(session, kept)?;
+        Ok(Answer::Committed(count))
+    }
+
+    // A commit of an open transaction.
+    fn commit(&mut self, session: u16, changes: ChangeList, kept: Births) -> Mem<Answer>
+        requires session { HasField self.old session }
+        requires open { (field_at self.old session).is_open ≡ true }
         requires kept { AreStocked self.old kept }
         requires named { AreStocked self.old (flat_map births_in (values_in changes)) }
         ensures { IsAnswered self.old self.new (λ h. half_answer h session call.Commit (rule.Commits changes) kept) result }
