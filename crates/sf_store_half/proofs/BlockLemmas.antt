@@ -1,10 +1,9 @@
 -- The blocks of some births of a stock.
-use Rattle.std.proofs.Common.{◌≡◌, ℕ, ◌+◌, ◌-◌, ◌≤◌, ◌<◌, Bool, true, false, cond, List, [], ◌∷◌, ◌++◌, length, take, get_or, Option, Some, None, refl, sym, ap, subst, ◌∙◌, arith}
-use Rattle.std.specs.Prelude.{not, ◌&&◌, ◌||◌, ◌==◌, filter, find, sum_by, All}
+use Rattle.std.proofs.Common.{◌≡◌, ℕ, ◌+◌, ◌<◌, Bool, true, false, cond, List, [], ◌∷◌, length, Some, refl, sym, ap, subst, ◌∙◌, arith}
+use Rattle.std.specs.Prelude.{not, ◌&&◌, ◌||◌, ◌==◌, filter, sum_by}
 use Rattle.std.specs.List.{AllByRecursion as Each}
-use Rattle.std.specs.Option.{option_map, option_map_or}
+use Rattle.std.specs.Option.{option_map_or}
 use Rattle.std.proofs.lemmas.List.{length-append}
-use Rattle.std.proofs.lemmas.List.Elements.{recursion_from_All}
 use Rattle.std.proofs.lemmas.List.Sums.{sum_by-cons}
 use Rattle.sf_types.proofs.NumberLemmas.{own_number, other_number, same_number}
 use Rattle.sf_types.specs.Inside.Births.{IsBelowAll, IsRising}
@@ -32,10 +31,10 @@ count_either p q (x ∷ xs) =
     elim (p x) as (λ t. block_count (cond (t || q x) (x ∷ filter (λ y. p y || q y) xs) (filter (λ y. p y || q y) xs)) ≡ block_count (cond t (x ∷ filter p xs) (filter p xs)) + block_count (cond (not t && q x) (x ∷ filter (λ y. not (p y) && q y) xs) (filter (λ y. not (p y) && q y) xs))) [
       | true ↦ omega (arith, count_either p q xs, count_next x (filter (λ y. p y || q y) xs), count_next x (filter p xs))
       | false ↦
-        elim (q x) as (λ u. block_count (cond u (x ∷ filter (λ y. p y || q y) xs) (filter (λ y. p y || q y) xs)) ≡ block_count (filter p xs) + block_count (cond u (x ∷ filter (λ y. not (p y) && q y) xs) (filter (λ y. not (p y) && q y) xs))) [
-          | true ↦ omega (arith, count_either p q xs, count_next x (filter (λ y. p y || q y) xs), count_next x (filter (λ y. not (p y) && q y) xs))
-          | false ↦ count_either p q xs
-        ]
+          elim (q x) as (λ u. block_count (cond u (x ∷ filter (λ y. p y || q y) xs) (filter (λ y. p y || q y) xs)) ≡ block_count (filter p xs) + block_count (cond u (x ∷ filter (λ y. not (p y) && q y) xs) (filter (λ y. not (p y) && q y) xs))) [
+            | true ↦ omega (arith, count_either p q xs, count_next x (filter (λ y. p y || q y) xs), count_next x (filter (λ y. not (p y) && q y) xs))
+            | false ↦ count_either p q xs
+          ]
     ]
 
 -- tests that agree on all births take out the same

@@ -1,5 +1,5 @@
 -- What is known of cuts, and the blocks that they want.
-use Rattle.std.proofs.Common.{◌≡◌, ℕ, ◌+◌, ◌≤◌, ◌<◌, Bool, true, false, cond, List, [], ◌∷◌, Some, None, Less, Equal, Greater, refl, sym, ap, ◌∙◌, arith}
+use Rattle.std.proofs.Common.{◌≡◌, ℕ, ◌+◌, ◌≤◌, Bool, true, false, cond, List, [], ◌∷◌, Some, None, Less, Equal, Greater, refl, sym, ap, ◌∙◌, arith}
 use Rattle.std.specs.Prelude.{not, ◌&&◌, ◌||◌, bytes_eq, find, is_some, is_none, sum_by, length}
 use Rattle.std.specs.List.{list_any}
 use Rattle.std.specs.Option.{option_map, option_map_or}
@@ -11,13 +11,12 @@ use Rattle.std.specs.FinMap.{nat_cmp-IsAntisymmetric}
 use Rattle.sf_types.specs.Table.Parts.{Content}
 use Rattle.sf_types.specs.Space.Contents.{blocks_of}
 use Rattle.sf_types.specs.Space.Cuts.{Cut}
-use Rattle.sf_types.specs.Space.Promises.{found_birth, is_found, is_equal_sharing, new_cuts, wanted_blocks}
-use Rattle.sf_room_map.specs.Entries.{value_for, with_value}
+use Rattle.sf_types.specs.Space.Promises.{is_found, is_equal_sharing, new_cuts, wanted_blocks}
+use Rattle.sf_room_map.specs.Entries.{with_value}
 use Rattle.sf_room_map.proofs.EntryLemmas.{with_other}
 use Rattle.sf_dedup.specs.Contents.{Contents, birth_with, content_at, with_content}
 use Rattle.sf_stock.specs.Stocks.{Stocked}
-use Rattle.sf_store_half.specs.declared.cut_notes.CutNote.{CutNote}
-use Rattle.sf_store_half.specs.Inside.CutNotes.{stocked_birth, has_equal, note_of, with_first, notes_from, is_found_among, blocks_for, blocks_for_all}
+use Rattle.sf_store_half.specs.Inside.CutNotes.{stocked_birth, has_equal, note_of, with_first, notes_from, blocks_for, blocks_for_all}
 
 -- whether some content has these bytes
 abbrev has_bytes : Contents → List ℕ → Bool
@@ -40,7 +39,7 @@ there_with : (firsts : Contents) (at : ℕ) (own bytes : List ℕ) → content_a
 there_with [] at own bytes none = refl
 there_with (e ∷ firsts) at own bytes none =
     elim (nat_cmp at e.0) as (λ r. cond (is_eq r) (Some e.1) (content_at firsts at) ≡ None
-        → has_bytes (match_ordering r ((at, own) ∷ e ∷ firsts) ((e.0, own) ∷ firsts) (e ∷ with_value nat_cmp firsts at own)) bytes ≡ (bytes_eq own bytes || (bytes_eq e.1 bytes || has_bytes firsts bytes))) [
+    → has_bytes (match_ordering r ((at, own) ∷ e ∷ firsts) ((e.0, own) ∷ firsts) (e ∷ with_value nat_cmp firsts at own)) bytes ≡ (bytes_eq own bytes || (bytes_eq e.1 bytes || has_bytes firsts bytes))) [
       | Less ↦ λ _. refl
       | Equal ↦ λ bad. absurd cc
       | Greater ↦ λ left. ap (λ t. bytes_eq e.1 bytes || t) (there_with firsts at own bytes left) ∙ either_way (bytes_eq e.1 bytes) (bytes_eq own bytes) (has_bytes firsts bytes)
@@ -69,8 +68,8 @@ pub fresh_with_first : (firsts : Contents) (at : ℕ) (cut : Cut) (k : ℕ) → 
 fresh_with_first firsts at cut k fresh past =
     elim (cut.is_sharing && is_none (birth_with firsts cut.bytes)) as (λ t. content_at (cond t (with_content firsts at cut.bytes) firsts) k ≡ None) [
       | true ↦
-        let apart : eq_by_cmp nat_cmp k at ≡ false = ap is_eq (sym (nat_cmp_is k at Greater (omega (arith, past)))) in
-        with_other nat_cmp nat_cmp_total nat_cmp-IsAntisymmetric firsts at cut.bytes k apart ∙ fresh k (omega (arith, past))
+          let apart : eq_by_cmp nat_cmp k at ≡ false = ap is_eq (sym (nat_cmp_is k at Greater (omega (arith, past)))) in
+          with_other nat_cmp nat_cmp_total nat_cmp-IsAntisymmetric firsts at cut.bytes k apart ∙ fresh k (omega (arith, past))
       | false ↦ fresh k (omega (arith, past))
     ]
 
@@ -79,7 +78,7 @@ abbrev is_among_equals : List Cut → List ℕ → Bool
 is_among_equals earlier bytes = list_any (λ c. c.is_sharing && bytes_eq c.bytes bytes) earlier
 
 equals_are : (cut : Cut) (earlier : List Cut) → list_any (is_equal_sharing cut) earlier ≡ (cut.is_sharing && is_among_equals earlier cut.bytes)
-equals_are cut [] = elim (cut.is_sharing) as (λ t. false ≡ (t && false)) [ | true ↦ refl | false ↦ refl ]
+equals_are cut [] = elim (cut.is_sharing) as (λ t. false ≡ (t && false)) [ true ↦ refl | false ↦ refl ]
 equals_are cut (c ∷ earlier) =
     ap (λ t. is_equal_sharing cut c || t) (equals_are cut earlier)
     ∙ ap (λ t. (cut.is_sharing && c.is_sharing && t) || (cut.is_sharing && is_among_equals earlier cut.bytes)) (nat_list_eq_equiv.symm cut.bytes c.bytes)
@@ -98,7 +97,6 @@ firsts_with firsts earlier at cut none are bytes =
 
 module _ (reached : ℕ → Bool) (stocked : List Stocked) (contents : List Content) (reach : List ℕ)
     (found : (cut : Cut) → is_found contents reach cut ≡ option_map_or reached (stocked_birth stocked cut) false) where
-
   one_wanted : (f e : Bool) (n rest : ℕ) (cut : Cut) (cuts : List Cut) → blocks_of (length cut.bytes) ≡ n → sum_by (λ (c : Cut). blocks_of (length c.bytes)) cuts ≡ rest
       → cond (not f && not e) n 0 + rest ≡ sum_by (λ (c : Cut). blocks_of (length c.bytes)) (cond (f || e) cuts (cut ∷ cuts))
   one_wanted true e n rest cut cuts own others = omega (arith, others)

@@ -1,6 +1,6 @@
 -- The kept versions of a row, and what becomes of them at a higher floor.
-use Rattle.std.proofs.Common.{◌≡◌, ℕ, zero, suc, ◌+◌, ◌-◌, ◌≤◌, ◌<◌, Bool, true, false, cond, List, [], ◌∷◌, ◌++◌, length, take, drop, Option, Some, None, refl, sym, ap, subst, ◌∙◌, arith}
-use Rattle.std.specs.Prelude.{◌||◌, ◌&&◌, filter, is_none, nat_le, nat_lt, slice_get, not}
+use Rattle.std.proofs.Common.{◌≡◌, ℕ, zero, suc, ◌+◌, ◌-◌, ◌≤◌, ◌<◌, Bool, true, false, cond, List, [], ◌∷◌, ◌++◌, length, take, drop, Option, Some, None, refl, sym, ap, ◌∙◌, arith}
+use Rattle.std.specs.Prelude.{◌||◌, filter, is_none, nat_le, nat_lt, slice_get}
 use Rattle.std.specs.List.{AllByRecursion as Each}
 use Rattle.std.specs.Option.{option_map, option_map_or}
 use Rattle.std.proofs.lemmas.Bool.Decides.{nat_tests}
@@ -125,7 +125,7 @@ changes_split before (c ∷ cs) row (suc k) within =
     let rest = changes_split (before + 1) cs row k (omega (arith, within)) in
     let far : before + 1 + k ≡ before + suc k = omega arith in
     elim (get c row) as (λ found. option_map_or (λ change. (before + 1, change) ∷ changes_of (before + 1) cs row) found (changes_of (before + 1) cs row)
-        ≡ option_map_or (λ change. (before + 1, change) ∷ changes_of (before + 1) (take k cs) row) found (changes_of (before + 1) (take k cs) row) ++ changes_of (before + suc k) (drop k cs) row) [
+    ≡ option_map_or (λ change. (before + 1, change) ∷ changes_of (before + 1) (take k cs) row) found (changes_of (before + 1) (take k cs) row) ++ changes_of (before + suc k) (drop k cs) row) [
       | None ↦ rest ∙ ap (λ n. changes_of (before + 1) (take k cs) row ++ changes_of n (drop k cs) row) far
       | Some x ↦ ap (λ (vs : RowChanges). (before + 1, x) ∷ vs) (rest ∙ ap (λ n. changes_of (before + 1) (take k cs) row ++ changes_of n (drop k cs) row) far)
     ]
@@ -182,7 +182,7 @@ changes_pushed before [] c row = ap (λ n. changes_of n (c ∷ []) row) (omega a
 changes_pushed before (d ∷ cs) c row =
     let rest = changes_pushed (before + 1) cs c row ∙ ap (λ n. changes_of (before + 1) cs row ++ changes_of n (c ∷ []) row) (omega arith) in
     elim (get d row) as (λ found. option_map_or (λ change. (before + 1, change) ∷ changes_of (before + 1) (cs ++ c ∷ []) row) found (changes_of (before + 1) (cs ++ c ∷ []) row)
-        ≡ option_map_or (λ change. (before + 1, change) ∷ changes_of (before + 1) cs row) found (changes_of (before + 1) cs row) ++ changes_of (before + length (d ∷ cs)) (c ∷ []) row) [
+    ≡ option_map_or (λ change. (before + 1, change) ∷ changes_of (before + 1) cs row) found (changes_of (before + 1) cs row) ++ changes_of (before + length (d ∷ cs)) (c ∷ []) row) [
       | None ↦ rest
       | Some x ↦ ap (λ (vs : RowChanges). (before + 1, x) ∷ vs) rest
     ]

@@ -1,9 +1,9 @@
 -- The cuts of a flush, one by one.
-use Rattle.std.proofs.Common.{◌≡◌, ℕ, zero, suc, ◌+◌, List, [], ◌∷◌, drop, map, Some, None, refl, sym, ap, ◌∙◌, arith}
+use Rattle.std.proofs.Common.{◌≡◌, ℕ, zero, suc, ◌+◌, List, [], ◌∷◌, drop, map, Some, None, refl, ap, ◌∙◌, arith}
 use Rattle.std.specs.Prelude.{slice_get}
 use Rattle.sf_types.specs.declared.options.Choice.{Choice}
 use Rattle.sf_types.specs.declared.options.Options.{Options}
-use Rattle.sf_types.specs.Space.Cuts.{Cut, is_sharing}
+use Rattle.sf_types.specs.Space.Cuts.{is_sharing}
 use Rattle.sf_versions.specs.Asks.{cuts_with}
 use Rattle.sf_store_half.specs.Inside.CutNotes.{cut_of}
 

@@ -1,6 +1,6 @@
 -- Versions that are given up as the floor rises.
 use Rattle.std.proofs.Common.{◌≡◌, ℕ, zero, suc, ◌+◌, ◌-◌, ◌≤◌, ◌<◌, Bool, true, false, cond, List, [], ◌∷◌, ◌++◌, length, take, drop, map, Option, Some, None, refl, sym, ap, subst, ◌∙◌, arith}
-use Rattle.std.specs.Prelude.{IsSome, IfSome, is_some, filter_map, slice_get, slice_index_or, unwrap_or, ◌&&◌, ◌||◌}
+use Rattle.std.specs.Prelude.{IsSome, IfSome, is_some, filter_map, slice_get, unwrap_or, ◌&&◌}
 use Rattle.std.specs.List.{AllByRecursion as Each, cons_option}
 use Rattle.std.specs.Option.{option_map, option_map_or}
 use Rattle.std.specs.Ordering.{nat_cmp, is_eq, eq_by_cmp, ordering_then}
@@ -10,7 +10,6 @@ use Rattle.std.specs.declared.cmp.Ordering.{Ordering}
 use Rattle.std.specs.declared.cmp.Ordering.TheVariants.{Less, Equal, Greater}
 use Rattle.sf_types.specs.Values.Names.{name_cmp}
 use Rattle.std.proofs.lemmas.List.{length-take-le}
-use Rattle.sf_types.specs.declared.holder.Holder.{Holder}
 use Rattle.sf_types.specs.declared.holder.Holder.TheVariants as holder
 use Rattle.sf_types.specs.Inside.NameMaps.{NameMap, get, has, is_same_name, with_entry}
 use Rattle.sf_types.specs.Values.Marks.{Value, births_in}

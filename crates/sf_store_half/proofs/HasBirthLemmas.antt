@@ -1,9 +1,8 @@
 -- Whether a birth is one of a rising list.
-use Rattle.std.proofs.Common.{◌≡◌, ℕ, zero, suc, ◌+◌, ◌<◌, ◌≤◌, Bool, true, false, List, [], ◌∷◌, length, get_or, refl, sym, ap, ◌∙◌, arith, Result, Ok, Err}
+use Rattle.std.proofs.Common.{◌≡◌, ℕ, zero, suc, ◌<◌, ◌≤◌, Bool, true, false, List, [], ◌∷◌, length, get_or, refl, sym, ap, ◌∙◌, arith, Result, Ok, Err}
 use Rattle.std.specs.Result.{MatchResult, is_ok}
 use Rattle.std.specs.Prelude.{◌==◌, ◌||◌, nat_lt}
 use Rattle.sf_types.proofs.NumberLemmas.{own_number, other_number, less, not_less}
-use Rattle.sf_types.specs.Inside.Births.{IsRising}
 use Rattle.sf_lifetimes.specs.Ledgers.{has_birth}
 
 pub there_at : (bs : List ℕ) (at b : ℕ) → at < length bs → get_or bs at 0 ≡ b → has_birth bs b ≡ true

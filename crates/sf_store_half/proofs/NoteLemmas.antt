@@ -1,6 +1,6 @@
 -- The notes of the versions that a higher floor gives up.
-use Rattle.std.proofs.Common.{◌≡◌, ℕ, zero, suc, ◌+◌, ◌-◌, ◌≤◌, ◌<◌, Bool, true, false, cond, List, [], ◌∷◌, ◌++◌, length, take, drop, Option, Some, None, refl, sym, ap, ◌∙◌, append_assoc, arith}
-use Rattle.std.specs.Prelude.{filter, filter_map, flat_map, map, nat_le, nat_lt, slice_index_or, not}
+use Rattle.std.proofs.Common.{◌≡◌, ℕ, zero, suc, ◌+◌, ◌-◌, ◌≤◌, ◌<◌, Bool, true, false, cond, List, [], ◌∷◌, ◌++◌, length, take, Option, Some, None, refl, sym, ap, ◌∙◌, append_assoc, arith}
+use Rattle.std.specs.Prelude.{filter, filter_map, flat_map, map, nat_le, nat_lt, slice_index_or}
 use Rattle.std.specs.List.{AllByRecursion as Each, cons_option, range_with_len}
 use Rattle.std.specs.Option.{option_map}
 use Rattle.std.proofs.lemmas.Bool.Decides.{nat_tests}
@@ -10,7 +10,6 @@ use Rattle.sf_types.proofs.NumberLemmas.{at_most}
 use Rattle.sf_types.specs.Table.Parts.{Rows}
 use Rattle.sf_types.specs.Values.Marks.{Value}
 use Rattle.sf_retention.specs.declared.retention.Note.{Note}
-use Rattle.sf_retention.specs.declared.retention.Pair.{Pair}
 use Rattle.sf_retention.specs.Notes.{due_pairs, note_of, pair_of}
 use Rattle.sf_versions.specs.RowChanges.{changes_of, last_number}
 use Rattle.sf_store_half.specs.Fields.{displaced_by}
@@ -129,8 +128,8 @@ due_are commits k m within =
     let left = filter (is_noted (k + m)) (notes_between commits 1 (length commits)) in
     ap (λ (ns : List Note). due_pairs ns (k + m)) (notes_from_floor commits k m within)
     ∙ ap (map pair_of) (
-      filter-append (λ note. nat_le note.until (k + m)) (notes_between commits (k + 1) m) left
-      ∙ ap (λ (ns : List Note). ns ++ filter (λ note. nat_le note.until (k + m)) left) (due_between commits (k + m) (k + 1) m (omega arith))
-      ∙ ap (λ (ns : List Note). notes_between commits (k + 1) m ++ ns) (none_due (k + m) (notes_between commits 1 (length commits)))
-      ∙ append-nil (notes_between commits (k + 1) m)
+    filter-append (λ note. nat_le note.until (k + m)) (notes_between commits (k + 1) m) left
+    ∙ ap (λ (ns : List Note). ns ++ filter (λ note. nat_le note.until (k + m)) left) (due_between commits (k + m) (k + 1) m (omega arith))
+    ∙ ap (λ (ns : List Note). notes_between commits (k + 1) m ++ ns) (none_due (k + m) (notes_between commits 1 (length commits)))
+    ∙ append-nil (notes_between commits (k + 1) m)
     )

@@ -1,24 +1,22 @@
 -- Fields that keep a half keep it at a higher floor, once the versions that are due there are given up.
-use Rattle.std.proofs.Common.{◌≡◌, ℕ, zero, suc, ◌+◌, ◌-◌, ◌≤◌, ◌<◌, Bool, true, false, cond, List, [], ◌∷◌, ◌++◌, length, drop, map, Some, refl, sym, ap, subst, ◌∙◌, arith}
-use Rattle.std.specs.Prelude.{All, filter, flat_map, ◌==◌}
-use Rattle.std.specs.List.{AllByRecursion as Each, range_with_len}
+use Rattle.std.proofs.Common.{◌≡◌, ℕ, ◌+◌, ◌-◌, ◌≤◌, false, cond, List, [], ◌∷◌, ◌++◌, length, drop, map, Some, refl, sym, ap, subst, ◌∙◌, arith}
+use Rattle.std.specs.Prelude.{filter}
 use Rattle.std.proofs.lemmas.List.{length-map}
 use Rattle.sf_types.specs.declared.holder.Holder.{Holder}
 use Rattle.sf_types.specs.declared.holder.Holder.TheVariants as holder
 use Rattle.sf_types.specs.Space.Use.{content_of}
 use Rattle.sf_types.specs.Halves.Asks.{Half}
 use Rattle.sf_types.specs.Halves.Flushes.{half_at}
-use Rattle.sf_lifetimes.specs.Ledgers.{Holdings, held_by, is_live, with_births}
+use Rattle.sf_lifetimes.specs.Ledgers.{Holdings, held_by, with_births}
 use Rattle.sf_retention.specs.declared.retention.Note.{Note}
 use Rattle.sf_retention.specs.declared.retention.Pair.{Pair}
 use Rattle.sf_retention.specs.Notes.{due_pairs, pair_of}
-use Rattle.sf_stock.specs.Stocks.{Stocked, StockView, IsSound, with_holder, with_left_parked}
-use Rattle.sf_versions.specs.VersionTables.{VersionTable, versions_of, without_version}
-use Rattle.sf_store_half.specs.Fields.{Fields, Keeps, held_in, kept_versions, notes_of}
+use Rattle.sf_stock.specs.Stocks.{StockView, IsSound, with_holder, with_left_parked}
+use Rattle.sf_versions.specs.VersionTables.{VersionTable, without_version}
+use Rattle.sf_store_half.specs.Fields.{Fields, Keeps, held_in, notes_of}
 use Rattle.sf_store_half.specs.Inside.Floors.{holdings_without, stock_without, versions_without}
 use Rattle.sf_store_half.proofs.BetweenLemmas.{IsBetween, all_since, between_held, between_itself, live_between}
-use Rattle.sf_store_half.proofs.FloorLemmas.{kept_at_number, kept_is}
-use Rattle.sf_store_half.proofs.GivenUpLemmas.{HoldVersions}
+use Rattle.sf_store_half.proofs.FloorLemmas.{kept_is}
 use Rattle.sf_store_half.proofs.HeldLemmas.{held_after, is_holder}
 use Rattle.sf_store_half.proofs.NoteLemmas.{due_are, is_noted, notes_between, notes_from_floor}
 use Rattle.sf_store_half.proofs.RaisedLemmas.{IsRaised, raised}

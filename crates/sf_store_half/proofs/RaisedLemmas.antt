@@ -1,6 +1,6 @@
 -- The floor rises over several commits.
-use Rattle.std.proofs.Common.{◌≡◌, ℕ, zero, suc, ◌+◌, ◌-◌, ◌≤◌, ◌<◌, true, false, cond, List, [], ◌∷◌, ◌++◌, length, take, drop, map, Option, Some, None, refl, sym, ap, subst, ◌∙◌, arith}
-use Rattle.std.specs.Prelude.{filter_map, slice_get, slice_index_or, is_some}
+use Rattle.std.proofs.Common.{◌≡◌, ℕ, zero, suc, ◌+◌, ◌-◌, ◌≤◌, ◌<◌, cond, List, [], ◌∷◌, ◌++◌, length, take, drop, map, Option, Some, None, refl, sym, ap, subst, ◌∙◌, arith}
+use Rattle.std.specs.Prelude.{filter_map, slice_index_or, is_some}
 use Rattle.std.specs.List.{AllByRecursion as Each}
 use Rattle.std.specs.Option.{option_map, option_map_or}
 use Rattle.std.specs.Ordering.{nat_cmp}
@@ -19,7 +19,7 @@ use Rattle.sf_versions.specs.VersionTables.{AreCommits, VersionTable, versions_o
 use Rattle.sf_store_half.specs.Fields.{displaced_by}
 use Rattle.sf_store_half.specs.Inside.Floors.{AreDisplaced, holdings_without, versions_without}
 use Rattle.sf_store_half.proofs.FloorLemmas.{displaced, kept_at_number, kept_next}
-use Rattle.sf_store_half.proofs.GivenUpLemmas.{AreLeft, Gives, HoldVersions, give_each, pairs_of}
+use Rattle.sf_store_half.proofs.GivenUpLemmas.{HoldVersions, give_each, pairs_of}
 use Rattle.sf_store_half.proofs.HeldReachLemmas.{each_found}
 use Rattle.sf_store_half.proofs.NoteLemmas.{notes_between}
 use Rattle.sf_store_half.proofs.VersionHoldLemmas.{births_of_version}

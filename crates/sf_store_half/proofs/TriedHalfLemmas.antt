@@ -1,8 +1,8 @@
 -- The reach of a half where a promise is tried: a session holds other births, and the versions that are due at a floor are given up.
-use Rattle.std.proofs.Common.{◌≡◌, ℕ, ◌≤◌, Bool, true, false, cond, List, [], ◌∷◌, length, map, refl, sym, ap, subst, ◌∙◌}
+use Rattle.std.proofs.Common.{◌≡◌, ℕ, ◌≤◌, Bool, true, false, cond, List, [], ◌∷◌, length, map, refl, sym, ap, ◌∙◌}
 use Rattle.std.specs.Prelude.{All, ◌||◌, ◌==◌}
 use Rattle.sf_types.proofs.NumberLemmas.{same_number}
-use Rattle.std.specs.List.{AllByRecursion as Each, list_any}
+use Rattle.std.specs.List.{list_any}
 use Rattle.std.proofs.lemmas.List.Elements.{recursion_from_All}
 use Rattle.sf_types.specs.declared.holder.Holder.{Holder}
 use Rattle.sf_types.specs.declared.holder.Holder.TheVariants as holder
@@ -11,7 +11,7 @@ use Rattle.sf_types.specs.Halves.Flushes.{half_at, half_reach}
 use Rattle.sf_lifetimes.specs.Ledgers.{Holdings, held_by, with_births, without_holders}
 use Rattle.sf_retention.specs.declared.retention.Pair.{Pair}
 use Rattle.sf_retention.specs.Notes.{due_pairs}
-use Rattle.sf_stock.specs.Stocks.{Stocked, IsSound, births_of, is_stocked}
+use Rattle.sf_stock.specs.Stocks.{IsSound, births_of, is_stocked}
 use Rattle.sf_store_half.specs.Fields.{Fields, Keeps, held_in, is_session}
 use Rattle.sf_store_half.specs.Inside.Floors.{holdings_without}
 use Rattle.sf_store_half.specs.Inside.Trials.{reached_stock, version_of}

@@ -1,12 +1,12 @@
 -- The reach of a half where a session holds other births, and some versions are given up.
-use Rattle.std.proofs.Common.{◌≡◌, ℕ, ◌+◌, ◌≤◌, Bool, true, false, cond, List, [], ◌∷◌, refl, sym, ap, subst, ◌∙◌, arith, inl, inr}
-use Rattle.std.specs.Prelude.{◌==◌, ◌&&◌, ◌||◌, ◌⊎◌, not, filter}
+use Rattle.std.proofs.Common.{◌≡◌, ℕ, Bool, true, false, cond, List, [], ◌∷◌, refl, sym, ap, subst, ◌∙◌, inl, inr}
+use Rattle.std.specs.Prelude.{◌==◌, ◌||◌, not, filter}
 use Rattle.std.specs.List.{AllByRecursion as Each}
 use Rattle.sf_types.specs.declared.holder.Holder.{Holder}
 use Rattle.sf_types.specs.declared.holder.Holder.TheVariants as holder
 use Rattle.sf_types.specs.Inside.Births.{IsRising}
-use Rattle.sf_types.specs.Halves.Asks.{Half, with_kept, with_kept_births, kept_at}
-use Rattle.sf_types.specs.Halves.Flushes.{half_at, half_reach}
+use Rattle.sf_types.specs.Halves.Asks.{Half}
+use Rattle.sf_types.specs.Halves.Flushes.{half_reach}
 use Rattle.sf_types.proofs.NumberLemmas.{same_number, own_number}
 use Rattle.sf_laws.proofs.PlacingLemmas.{rising_births-filter}
 use Rattle.sf_lifetimes.specs.Ledgers.{Holdings, has_birth, held_by, is_live, with_births, without_holders}
@@ -14,9 +14,9 @@ use Rattle.sf_lifetimes.proofs.LedgerLemmas.{holds, is_at}
 use Rattle.sf_stock.specs.Stocks.{Stocked, births_of, is_stocked}
 use Rattle.sf_stock.proofs.LeaveLemmas.{live_before}
 use Rattle.sf_versions.specs.VersionTables.{AreCommits}
-use Rattle.sf_store_half.specs.Fields.{Fields, Keeps, held_in, is_session}
+use Rattle.sf_store_half.specs.Fields.{held_in}
 use Rattle.sf_store_half.specs.Inside.Trials.{is_reached}
-use Rattle.sf_store_half.proofs.HeldLemmas.{held_after, is_holder, same_session, same_promise, session_held_with, promise_held_with, births_promised}
+use Rattle.sf_store_half.proofs.HeldLemmas.{held_after, is_holder, same_session}
 use Rattle.sf_store_half.proofs.LiveLemmas.{holder_live, same_number_held}
 use Rattle.sf_store_half.proofs.StockReachLemmas.{births_reached}
 
@@ -31,7 +31,7 @@ live_with m y births b own =
           holder_live (with_births m y births) y b (ap (λ bs. has_birth bs b) (own_holder m y births own) ∙ has) ∙ sym (always (is_live (with_births m y []) b))
       | false ↦ λ lacks.
           ap (λ k. not (k == 0)) (same_number_held (with_births m y births) (with_births m y []) b (λ x.
-            ap (holds b) (held_after m y births x) ∙ alike x lacks (is_holder x y) ∙ sym (ap (holds b) (held_after m y [] x))))
+          ap (holds b) (held_after m y births x) ∙ alike x lacks (is_holder x y) ∙ sym (ap (holds b) (held_after m y [] x))))
           ∙ sym (plain (is_live (with_births m y []) b))
     ] refl
   where

@@ -1,9 +1,9 @@
 -- What versions hold, by the versions that are kept of each row.
-use Rattle.std.proofs.Common.{◌≡◌, ℕ, zero, suc, ◌+◌, ◌-◌, ◌≤◌, ◌<◌, Bool, true, false, cond, List, [], ◌∷◌, length, Option, Some, None, refl, sym, ap, ◌∙◌, arith}
-use Rattle.std.specs.Prelude.{◌||◌, ◌&&◌, filter, nat_le, nat_lt, slice_index_or, not}
+use Rattle.std.proofs.Common.{◌≡◌, ℕ, zero, suc, ◌+◌, ◌-◌, ◌≤◌, ◌<◌, Bool, true, false, cond, List, [], ◌∷◌, Option, Some, None, refl, sym, ap, ◌∙◌, arith}
+use Rattle.std.specs.Prelude.{◌&&◌, filter, nat_le, nat_lt, slice_index_or}
 use Rattle.std.specs.List.{AllByRecursion as Each}
 use Rattle.std.specs.Option.{option_map_or}
-use Rattle.std.specs.Ordering.{nat_cmp, is_eq, eq_by_cmp}
+use Rattle.std.specs.Ordering.{nat_cmp, is_eq}
 use Rattle.std.specs.Cmp.{nat_cmp_is, nat_cmp_total}
 use Rattle.std.specs.FinMap.{nat_cmp-IsAntisymmetric}
 use Rattle.std.specs.declared.cmp.Ordering.{Ordering}
@@ -21,7 +21,7 @@ use Rattle.sf_types.specs.Halves.Flushes.{table_of_half}
 use Rattle.sf_room_map.specs.Entries.{value_for}
 use Rattle.sf_room_map.proofs.EntryLemmas.{same_key}
 use Rattle.sf_versions.specs.RowChanges.{RowChanges, changes_of}
-use Rattle.sf_store_half.specs.Fields.{held_in, kept_versions, version_births}
+use Rattle.sf_store_half.specs.Fields.{held_in, kept_versions}
 use Rattle.sf_store_half.proofs.FloorLemmas.{past_before}
 
 -- the births of a row's version, by its versions
@@ -121,9 +121,9 @@ version_held h row n =
     let index : n - (0 + 1) ≡ n - 1 = omega arith in
     let first : nat_lt 0 n ≡ nat_le 1 n = refl in
     sym (
-      ap (λ o. option_map_or births_in (value_or_absent o) []) (filtered_at (λ k. is_kept (table_of_half h) row k) (changes_of 0 h.commits row) n
-      ∙ ap (λ o. cond (is_kept (table_of_half h) row n) o None) (made ∙ ap (λ k. cond (nat_le 1 n) (get (slice_index_or h.commits k []) row) None) index))
-      ∙ both (nat_le 1 n) (is_kept (table_of_half h) row n) (get (slice_index_or h.commits (n - 1) []) row)
+    ap (λ o. option_map_or births_in (value_or_absent o) []) (filtered_at (λ k. is_kept (table_of_half h) row k) (changes_of 0 h.commits row) n
+    ∙ ap (λ o. cond (is_kept (table_of_half h) row n) o None) (made ∙ ap (λ k. cond (nat_le 1 n) (get (slice_index_or h.commits k []) row) None) index))
+    ∙ both (nat_le 1 n) (is_kept (table_of_half h) row n) (get (slice_index_or h.commits (n - 1) []) row)
     )
   where
     both : (t u : Bool) (o : Option (Option Value)) → option_map_or births_in (value_or_absent (cond u (cond t o None) None)) [] ≡ cond {A = List ℕ} (t && u) (option_map_or births_in (value_or_absent o) []) []

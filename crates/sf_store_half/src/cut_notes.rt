@@ -68,7 +68,12 @@ fn note_cut(
 }
 
 /// What is known of the cuts of a flush, in their order.
-pub fn note_cuts(alloc: Global, stock: &Stock, options: &Options, flush: &Flush) -> Mem<Vec<CutNote>>
+pub fn note_cuts(
+    alloc: Global,
+    stock: &Stock,
+    options: &Options,
+    flush: &Flush,
+) -> Mem<Vec<CutNote>>
     requires { HasPrints flush.now }
     ensures { IfOk result (λ notes. notes.items ≡ notes_from stock.now.held.stocked [] 0 (cuts_in options.now flush.now)) }
 {
@@ -77,9 +82,11 @@ pub fn note_cuts(alloc: Global, stock: &Stock, options: &Options, flush: &Flush)
     let mut firsts = Index::new(alloc)?;
     let mut notes = Vec::new(alloc);
     let mut at = 0;
-    while let (Some(content), Some(print), Some(choice)) =
-        (flush.contents.get(at), flush.prints.get(at), flush.choices.get(at))
-    {
+    while let (Some(content), Some(print), Some(choice)) = (
+        flush.contents.get(at),
+        flush.prints.get(at),
+        flush.choices.get(at),
+    ) {
         let is_sharing = is_sharing(options, *choice);
         notes.push(note_cut(stock, &mut firsts, at as u128, content, *print, is_sharing)?)?;
         at += 1;

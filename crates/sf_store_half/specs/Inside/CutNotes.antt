@@ -1,5 +1,5 @@
 -- What is known of the cuts of a flush, and the blocks that they want (our own, after the deduplication of VLDB 2008).
-use Rattle.std.specs.Prelude.{ℕ, ◌+◌, Bool, false, not, ◌&&◌, List, [], ◌∷◌, length, sum_by, filter_map, is_some, is_none, Option, Some, None, if◌then◌else◌}
+use Rattle.std.specs.Prelude.{ℕ, ◌+◌, Bool, false, not, ◌&&◌, List, [], ◌∷◌, length, sum_by, is_some, is_none, Option, None, if◌then◌else◌}
 use Rattle.std.specs.Option.{option_map_or}
 use Rattle.sf_types.specs.Space.Contents.{blocks_of}
 use Rattle.sf_types.specs.Space.Cuts.{Cut}

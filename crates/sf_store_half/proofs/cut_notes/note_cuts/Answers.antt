@@ -1,4 +1,4 @@
-use Rattle.std.proofs.Common.{◌≡◌, ℕ, ◌+◌, ◌-◌, ◌<◌, ◌≤◌, List, [], ◌∷◌, ◌++◌, drop, length, None, refl, sym, ap, ◌∙◌, append_assoc, arith}
+use Rattle.std.proofs.Common.{◌≡◌, ◌+◌, List, [], ◌∷◌, ◌++◌, drop, sym, ap, ◌∙◌, append_assoc}
 use Rattle.std.specs.Prelude.{slice_get}
 use Rattle.std.proofs.lemmas.List.{append-nil}
 use Rattle.sf_types.specs.Space.Cuts.{Cut}
@@ -6,7 +6,7 @@ use Rattle.sf_dedup.specs.Prints.{print_of}
 use Rattle.sf_dedup.specs.Contents.{content_at}
 use Rattle.sf_store_half.specs.declared.cut_notes.CutNote.{CutNote}
 use Rattle.sf_store_half.specs.HalfMoves.{cuts_in}
-use Rattle.sf_store_half.specs.Inside.CutNotes.{cut_of, note_of, notes_from, with_first}
+use Rattle.sf_store_half.specs.Inside.CutNotes.{cut_of, note_of, notes_from}
 use Rattle.sf_store_half.proofs.CutNoteLemmas.{fresh_with_first}
 use Rattle.sf_store_half.proofs.FlushLemmas.{next_cut, no_cut_past_contents, no_cut_past_choices, none_of_map}
 use Rattle.sf_store_half.proofs.cut_notes.note_cuts.Goals as goal
@@ -42,8 +42,8 @@ returns c =
     let ended : drop at (cuts_in options flush) ≡ [] = elim c.match-get.branch [
       | in_default w ↦ no_cut_past_choices options flush.contents flush.choices at (sym w.in_default.ensures'')
       | in_default-2 w ↦
-        no_cut_past_contents options flush.contents flush.choices at
-        (none_of_map print_of flush.contents at (ap (λ xs. slice_get xs at) (sym c.requires) ∙ sym w.in_default.ensures'))
+          no_cut_past_contents options flush.contents flush.choices at
+          (none_of_map print_of flush.contents at (ap (λ xs. slice_get xs at) (sym c.requires) ∙ sym w.in_default.ensures'))
       | in_default-3 w ↦ no_cut_past_contents options flush.contents flush.choices at (sym w.in_default.ensures)
     ] in
     sym (append-nil notes)

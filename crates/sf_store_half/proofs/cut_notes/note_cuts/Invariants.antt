@@ -1,5 +1,4 @@
 use Rattle.std.proofs.Common.{◌≡◌, ◌-◌, ◌≤◌, ◌++◌, ℕ, [], length, drop, None}
-use Rattle.sf_types.specs.Space.Cuts.{Cut}
 use Rattle.sf_dedup.specs.Contents.{content_at}
 use Rattle.sf_store_half.specs.HalfMoves.{cuts_in}
 use Rattle.sf_store_half.specs.Inside.CutNotes.{notes_from}

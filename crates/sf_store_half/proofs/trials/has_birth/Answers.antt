@@ -1,4 +1,4 @@
-use Rattle.std.proofs.Common.{◌≡◌, ◌∙◌, ap}
+use Rattle.std.proofs.Common.{◌∙◌, ap}
 use Rattle.std.proofs.lemmas.List.Sorted.{searched}
 use Rattle.sf_lifetimes.specs.Ledgers.{has_birth}
 use Rattle.sf_lifetimes.proofs.CountLemmas.{rising_le}

@@ -1,11 +1,10 @@
-use Rattle.std.proofs.Common.{◌≡◌, ℕ, Bool, true, List, length, take, sym, ap, subst, ◌∙◌, arith}
+use Rattle.std.proofs.Common.{◌≡◌, ℕ, Bool, true, List, length, take, ap, ◌∙◌}
 use Rattle.std.proofs.lemmas.List.{take_all}
 use Rattle.std.specs.Prelude.{not, sum_by}
 use Rattle.std.proofs.lemmas.List.Elements.{recursion_from_All}
-use Rattle.sf_types.specs.Inside.Births.{IsRising}
 use Rattle.sf_types.specs.Space.Contents.{blocks_of}
 use Rattle.sf_lifetimes.specs.Ledgers.{Holdings, is_live, without_holders}
-use Rattle.sf_stock.specs.Stocks.{Stocked, block_count, is_stocked}
+use Rattle.sf_stock.specs.Stocks.{Stocked, is_stocked}
 use Rattle.sf_store_half.proofs.BlockLemmas.{weight_of, weights_are}
 use Rattle.sf_store_half.proofs.trials.kept_blocks.Goals as goal
 

@@ -1,4 +1,4 @@
-use Rattle.std.proofs.Common.{◌≡◌, List, take}
+use Rattle.std.proofs.Common.{◌≡◌, take}
 use Rattle.std.specs.Prelude.{sum_by, not}
 use Rattle.sf_lifetimes.specs.Ledgers.{is_live, without_holders}
 use Rattle.sf_store_half.proofs.BlockLemmas.{weight_of}

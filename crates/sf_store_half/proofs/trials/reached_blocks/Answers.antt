@@ -1,4 +1,4 @@
-use Rattle.std.proofs.Common.{◌≡◌, ◌≤◌, ℕ, sym, ap, ◌∙◌, arith}
+use Rattle.std.proofs.Common.{◌∙◌, arith}
 use Rattle.sf_store_half.proofs.TrialLemmas.{freed_within, reached_is}
 use Rattle.sf_store_half.proofs.trials.reached_blocks.Goals as goal
 

@@ -1,4 +1,4 @@
-use Rattle.std.proofs.Common.{◌≡◌, List, take}
+use Rattle.std.proofs.Common.{◌≡◌, take}
 use Rattle.sf_store_half.specs.Inside.CutNotes.{blocks_for_all}
 use Rattle.sf_store_half.specs.Inside.Trials.{is_reached}
 use Rattle.sf_store_half.proofs.trials.wanted_blocks.Given as goal
