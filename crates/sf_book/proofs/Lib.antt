@@ -1,1 +1,4 @@
+pub mod BatchLemmas
+pub mod KeptBirthLemmas
 pub mod MoveLemmas
+pub mod QuietLemmas

@@ -17,6 +17,7 @@ use Rattle.sf_types.specs.Orders.Histories.{IsLegalHistory, history_table, table
 use Rattle.sf_types.specs.Play.Blocks.{is_among, places_by_first, departed_blocks, new_births, places_of_new, places_after}
 use Rattle.sf_types.specs.Halves.Asks.{half_of, kept_of}
 use Rattle.sf_types.specs.Halves.Flushes.{half_reach}
+use Rattle.sf_stock.specs.Stocks as stock
 use Rattle.sf_stock.specs.Stocks.{Stocked, is_stocked, births_of, places_of}
 use Rattle.sf_laws.proofs.BlockSumLemmas.{is_one, count_of, IsOnce, count_none, each_counted, from_counted, once_apart}
 use Rattle.sf_laws.proofs.EachLemmas.{each_weaker, each_itself}
@@ -27,6 +28,7 @@ use Rattle.sf_types.proofs.NumberLemmas.{same_number}
 use Rattle.sf_store_half.specs.declared.session_fields.SessionField.{SessionField}
 use Rattle.sf_store_half.specs.Fields.{Fields, Keeps, session_field}
 use Rattle.sf_store_half.specs.HalfMoves.{IsRepacked}
+use Rattle.sf_store_half.proofs.StockReachLemmas.{stocked_are_reached}
 use Rattle.sf_book.specs.Books.{table_of, IsSound}
 use Rattle.sf_book.specs.Moves.{AreAway, IsMoved}
 use Rattle.sf_book.specs.Inside.Bodies.{book_of}
@@ -63,11 +65,11 @@ pub record IsStep (f : Fields) (history : List Entry) (after : Fields) (es : Lis
   pub legal : IsLegalHistory (table_of (book_of f history)) es
   pub moves : Moves (table_of (book_of f history)) (table_after (table_of (book_of f history)) es) given
   pub keeps : Keeps after (half_of (table_after (table_of (book_of f history)) es))
-  pub reached : births_of after.stock.stocked ≡ half_reach (half_of (table_after (table_of (book_of f history)) es))
+  pub stocked : stock.IsSound after.stock
   pub repacked : IsRepacked f.stock after.stock
       (places_of_new (table_after (table_of (book_of f history)) es).contents (new_births (table_of (book_of f history)) (table_after (table_of (book_of f history)) es)) given)
 
-session_count : (f : Fields) (t : Table) → Keeps f (half_of t) → length f.sessions ≡ length t.sessions
+pub session_count : (f : Fields) (t : Table) → Keeps f (half_of t) → length f.sessions ≡ length t.sessions
 session_count f t keeps = ap (λ (xs : List SessionField). length xs) keeps.sessions ∙ length-map (map kept_of t.sessions) session_field ∙ length-map t.sessions kept_of
 
 -- the table of the Book after a step
@@ -92,8 +94,8 @@ shape_of_step f history after es keeps legal kept =
           ∙ run-append (opening_table f.options (length f.sessions)) history es;
     }
 
-tests_agree : (after : Fields) (u : Table) → births_of after.stock.stocked ≡ half_reach (half_of u) → (b : ℕ) → is_stocked after.stock.stocked b ≡ is_among (reach u) b
-tests_agree after u reached b = among_stocked b after.stock.stocked ∙ ap (λ (bs : List ℕ). is_among bs b) (reached ∙ sym (reach_by_half u))
+pub tests_agree : (after : Fields) (u : Table) → Keeps after (half_of u) → stock.IsSound after.stock → (b : ℕ) → is_stocked after.stock.stocked b ≡ is_among (reach u) b
+tests_agree after u keeps sound b = among_stocked b after.stock.stocked ∙ ap (λ (bs : List ℕ). is_among bs b) (stocked_are_reached after (half_of u) keeps sound ∙ sym (reach_by_half u))
 
 -- the places after a step, and the parked blocks
 places_moved : (f : Fields) (history : List Entry) (after : Fields) (es : List Entry) (given : List ℕ) → IsStep f history after es given
@@ -103,7 +105,7 @@ places_moved f history after es given step =
     let u = table_after t es in
     step.repacked.places
     ∙ ap (λ (xs : List Placed). xs ++ places_of_new u.contents (new_births t u) given)
-    (filter_agree (λ (x : Placed). is_stocked after.stock.stocked x.birth) (λ x. is_among (reach u) x.birth) (λ x. tests_agree after u step.reached x.birth) (places_of f.stock.stocked))
+    (filter_agree (λ (x : Placed). is_stocked after.stock.stocked x.birth) (λ x. is_among (reach u) x.birth) (λ x. tests_agree after u step.keeps step.stocked x.birth) (places_of f.stock.stocked))
 
 parked_moved : (f : Fields) (history : List Entry) (after : Fields) (es : List Entry) (given : List ℕ) → IsStep f history after es given
     → after.stock.parked ≡ f.stock.parked ++ departed_blocks (table_after (table_of (book_of f history)) es) (places_of f.stock.stocked)
@@ -111,7 +113,7 @@ parked_moved f history after es given step =
     let u = table_after (table_of (book_of f history)) es in
     step.repacked.parked
     ∙ ap (λ (xs : List Placed). f.stock.parked ++ all_blocks (places_by_first xs))
-    (filter_agree (λ (x : Placed). not (is_stocked after.stock.stocked x.birth)) (λ x. not (is_among (reach u) x.birth)) (λ x. ap not (tests_agree after u step.reached x.birth)) (places_of f.stock.stocked))
+    (filter_agree (λ (x : Placed). not (is_stocked after.stock.stocked x.birth)) (λ x. not (is_among (reach u) x.birth)) (λ x. ap not (tests_agree after u step.keeps step.stocked x.birth)) (places_of f.stock.stocked))
 
 -- blocks that are away stand nowhere in the Book
 apart_counted : (b : ℕ) (all given : List ℕ) → IsOnce all → IsOnce given → All (λ block. ¬ (Contains all block)) given → count_of b all + count_of b given ≤ 1
