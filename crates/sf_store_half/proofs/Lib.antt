@@ -1,6 +1,10 @@
+pub mod BetweenLemmas
 pub mod FieldLemmas
+pub mod HeldLemmas
 pub mod HeldReachLemmas
 pub mod KeepsLemmas
 pub mod LiveLemmas
+pub mod SetLemmas
+pub mod SettledLemmas
 pub mod StockLemmas
 pub mod StockReachLemmas

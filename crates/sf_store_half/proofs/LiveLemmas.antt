@@ -1,5 +1,5 @@
 -- Which births somebody holds, by what each holder holds.
-use Rattle.std.proofs.Common.{◌≡◌, ℕ, true, false, cond, List, Option, refl, sym, ap, ◌∙◌, arith}
+use Rattle.std.proofs.Common.{◌≡◌, ℕ, true, false, cond, List, Option, sym, ap, ◌∙◌, arith}
 use Rattle.std.specs.Prelude.{not, ◌==◌}
 use Rattle.std.specs.List.{count_by}
 use Rattle.std.specs.FinMap as fin

@@ -1,2 +1,3 @@
 -- Words that serve the proofs of the bodies.
+pub mod Answered
 pub mod Fields

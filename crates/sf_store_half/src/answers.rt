@@ -7,6 +7,8 @@ ghost use Rattle.std.specs.Option.{IfSome, IsSome};
 ghost use Rattle.sf_store_half.specs.Fields.{Keeps};
 ghost use Rattle.sf_store_half.specs.HalfMoves.{AreStocked, BringsStocked, HasField, IsRepacked, field_at};
 
+use crate::session_fields::{Promised, take_promise};
+use crate::stock_steps::drop_promise;
 use crate::store_half::StoreHalf;
 use sf_types::{Births, Call, Mem, OutOfMemory};
 use sf_versions::{Answer, Ask};
@@ -36,6 +38,26 @@ impl StoreHalf {
         ensures repacked { OnOk result (IsRepacked self.old.stock self.new.stock []) }
         ensures err { OnErr result (self.new ≡ self.old) }
     {
-        Err(OutOfMemory)
+        let is_open = self.is_open(session);
+        let has_ended = self.has_ended(session);
+        self.settle(session, births, is_open, has_ended)?;
+        Ok(())
+    }
+
+    /// Ends the standing promise of a session, and hands out the call for which it stands. It takes no memory.
+    pub fn cancel(&mut self, session: u16) -> Call
+        requires session { HasField self.old session }
+        requires promised { IsSome (field_at self.old session).promise }
+        ensures call { IfSome (field_at self.old session).promise (λ promised. result ≡ promised.call) }
+        ensures kept { (h : Half) → Keeps self.old h → Keeps self.new (half_cancel h session) }
+        ensures repacked { IsRepacked self.old.stock self.new.stock [] }
+    {
+        let Some(promised) = take_promise(&mut self.sessions, session) else {
+            unreachable!();
+        };
+        drop_promise(&mut self.stock, session);
+        let Promised { call, blocks } = promised;
+        self.promised -= blocks;
+        call
     }
 }

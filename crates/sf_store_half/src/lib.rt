@@ -3,9 +3,12 @@
 
 mod answers;
 pub mod laws;
+mod openings;
 mod publications;
 mod reserves;
 mod session_fields;
+mod settling;
+mod stock_steps;
 mod store_half;
 
 pub use session_fields::{Promised, SessionField};

@@ -8,12 +8,13 @@ ghost use Rattle.sf_types.specs.Halves.Flushes.{half_free};
 ghost use Rattle.sf_stock.specs.Stocks.{IsSound, AreShifts, listed_place, with_shifts, without_ripe};
 ghost use Rattle.sf_store_half.specs.Fields.{Keeps, opening_fields};
 
+use crate::openings::new_sessions;
 use crate::session_fields::SessionField;
 use sf_retention::Retention;
 use sf_row_locks::RowLocks;
 use sf_shrink::ShiftList;
 use sf_stock::Stock;
-use sf_types::{Mem, Options, OutOfMemory, PlaceList, Runs};
+use sf_types::{Mem, Options, PlaceList, Runs};
 use sf_versions::{Answer, Versions};
 use std::alloc::Global;
 use std::marker::Model;
@@ -21,14 +22,14 @@ use std::marker::Model;
 /// The store's half of the table, seen as its fields. All births that have a place are held, and none waits to be parked.
 #[derive(Drop)]
 pub struct StoreHalf {
-    options: Options,
-    locks: RowLocks,
-    versions: Versions,
-    notes: Retention,
-    floor: u64,
-    sessions: Vec<SessionField>,
-    promised: u64,
-    stock: Stock,
+    pub(crate) options: Options,
+    pub(crate) locks: RowLocks,
+    pub(crate) versions: Versions,
+    pub(crate) notes: Retention,
+    pub(crate) floor: u64,
+    pub(crate) sessions: Vec<SessionField>,
+    pub(crate) promised: u64,
+    pub(crate) stock: Stock,
 }
 
 /// The answer to a call that was published, and those blocks that none of its contents takes.
@@ -60,7 +61,15 @@ impl Model for StoreHalf {
       stock = x.stock.held;
     } };
 
-    ghost invariant = { λ x. AreKept x.options x.sessions.items x.promised x.stock.held };
+    ghost invariant = { λ x. AreKept (record {
+      options = x.options;
+      locks = x.locks.held;
+      versions = x.versions.held;
+      notes = x.notes.held;
+      floor = x.floor;
+      sessions = x.sessions.items;
+      stock = x.stock.held;
+    }) x.promised };
 }
 
 impl StoreHalf {
@@ -69,7 +78,16 @@ impl StoreHalf {
         requires { IsInRange options }
         ensures { IfOk result (λ half. half ≡ opening_fields options sessions) }
     {
-        Err(OutOfMemory)
+        Ok(StoreHalf {
+            options,
+            locks: RowLocks::new(alloc)?,
+            versions: Versions::new(alloc),
+            notes: Retention::new(alloc)?,
+            floor: 0,
+            sessions: new_sessions(alloc, sessions)?,
+            promised: 0,
+            stock: Stock::new(alloc)?,
+        })
     }
 
     /// The number of commits.

@@ -10,4 +10,4 @@ returns c =
     let stock = c.self.inside.stock.held in
     subst (λ (f : Fields). IfOk c.places.result (λ places. places ≡ map listed_place f.stock.stocked)) c.self.view_is
     (subst (λ (xs : List Stocked). IfOk c.places.result (λ places. places ≡ map listed_place xs))
-    (live_are_all stock.holdings stock.stocked c.self.invariant.live) c.places.ensures)
+    (live_are_all stock.holdings stock.stocked c.self.invariant.keeps.live) c.places.ensures)
