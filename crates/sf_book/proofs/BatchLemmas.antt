@@ -1,5 +1,5 @@
 -- A session's local calls since its last turn, and an event behind them.
-use Rattle.std.proofs.Common.{◌≡◌, ℕ, Bool, true, false, IsTrue, List, [], ◌∷◌, ◌++◌, length, Option, refl, sym, ap, subst, ◌∙◌}
+use Rattle.std.proofs.Common.{◌≡◌, ℕ, Bool, true, false, IsTrue, List, [], ◌∷◌, ◌++◌, length, Option, sym, ap, subst, ◌∙◌}
 use Rattle.std.specs.Prelude.{flat_map, Contains}
 use Rattle.std.specs.List.{AllByRecursion as Each}
 use Rattle.sf_types.specs.declared.call.Call.{Call}
@@ -7,11 +7,11 @@ use Rattle.sf_types.specs.declared.history.Entry.{Entry}
 use Rattle.sf_types.specs.declared.history.Kind.TheVariants as kind
 use Rattle.sf_types.specs.declared.options.Options.{Options}
 use Rattle.sf_types.specs.Values.Marks.{births_in}
-use Rattle.sf_types.specs.Table.Parts.{Promise, Session, Table, opening_table}
+use Rattle.sf_types.specs.Table.Parts.{Promise, Table, opening_table}
 use Rattle.sf_types.specs.Table.Sessions.{has_session, session_of}
 use Rattle.sf_types.specs.Calls.Steps.{step}
 use Rattle.sf_types.specs.Space.Due.{is_due}
-use Rattle.sf_types.specs.Space.Reach.{reach, session_births, values_in}
+use Rattle.sf_types.specs.Space.Reach.{reach, values_in}
 use Rattle.sf_types.specs.Orders.Histories.{IsLegal, IsLegalHistory, history_table, effect_of, entry_of, call_entries, call_effect, table_after}
 use Rattle.sf_types.specs.Halves.Own.{Own, own_of, own_due, is_event}
 use Rattle.sf_types.specs.Halves.Asks.{Half, Answer, Request, half_of, half_answer, kept_births, request_of, with_kept_births}
@@ -29,8 +29,8 @@ use Rattle.sf_laws.proofs.ReachLemmas.{OfBirth, each_from_reach, each-session_bi
 use Rattle.sf_laws.proofs.StageLemmas.{IsBehind, is_behind}
 use Rattle.sf_laws.proofs.TurnMoveLemmas.{Quiet, quiet_on, quiet_entry}
 use Rattle.sf_store_half.specs.Fields.{Fields, Keeps}
-use Rattle.sf_store_half.specs.HalfMoves.{AreStocked, BringsStocked, IsRepacked, flushed_rows}
-use Rattle.sf_book.specs.Books.{table_of, IsSound}
+use Rattle.sf_store_half.specs.HalfMoves.{BringsStocked, IsRepacked, flushed_rows}
+use Rattle.sf_book.specs.Books.{BookView, table_of, IsSound}
 use Rattle.sf_book.specs.Moves.{IsBatch, own_with_batch, table_with_batch}
 use Rattle.sf_book.specs.Inside.Bodies.{book_of}
 use Rattle.sf_book.proofs.KeptBirthLemmas.{each_kept, each_brought}
@@ -66,11 +66,14 @@ abbrev pub event_entries : ℕ → Batch → Call → List Entry
 event_entries s batch c = call_entries s batch.calls ++ entry_of s kind.Call c ∷ []
 
 -- What the store's half answers to an event by its own words, and by those of the ask.
-abbrev pub told_by : Fields → List Entry → ℕ → Batch → Call → Half × Answer
-told_by f history s batch c =
-    let t = table_of (book_of f history) in
+abbrev pub told_in : BookView → ℕ → Batch → Call → Half × Answer
+told_in b s batch c =
+    let t = table_of b in
     let o = own_with_batch t s batch in
     half_answer (half_of (table_with_batch t s batch)) s c (request_of o c) (kept_births o c)
+
+abbrev pub told_by : Fields → List Entry → ℕ → Batch → Call → Half × Answer
+told_by f history s batch c = told_in (book_of f history) s batch c
 
 abbrev pub told_to : Fields → List Entry → ℕ → List ℕ → Ask → Half × Answer
 told_to f history s births ask =

@@ -16,7 +16,6 @@ use Rattle.sf_types.specs.Space.Placings.{Placed, IsSafe, all_blocks}
 use Rattle.sf_types.specs.Orders.Histories.{IsLegalHistory, history_table, table_after}
 use Rattle.sf_types.specs.Play.Blocks.{is_among, places_by_first, departed_blocks, new_births, places_of_new, places_after}
 use Rattle.sf_types.specs.Halves.Asks.{half_of, kept_of}
-use Rattle.sf_types.specs.Halves.Flushes.{half_reach}
 use Rattle.sf_stock.specs.Stocks as stock
 use Rattle.sf_stock.specs.Stocks.{Stocked, is_stocked, births_of, places_of}
 use Rattle.sf_laws.proofs.BlockSumLemmas.{is_one, count_of, IsOnce, count_none, each_counted, from_counted, once_apart}

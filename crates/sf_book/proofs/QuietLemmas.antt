@@ -1,49 +1,30 @@
 -- Entries that give out no birth, and what a session's local calls and an event behind them do to the store's half.
-use Rattle.std.proofs.Common.{◌≡◌, ℕ, zero, suc, ◌+◌, ◌-◌, ◌≤◌, Bool, true, false, cond, IsTrue, List, [], ◌∷◌, ◌++◌, length, refl, sym, ap, subst, ◌∙◌, arith}
-use Rattle.std.specs.Prelude.{filter, flat_map, is_some, All, AllPairs, Contains}
+use Rattle.std.proofs.Common.{◌≡◌, ℕ, ◌+◌, ◌-◌, ◌≤◌, Bool, true, false, cond, IsTrue, List, [], ◌∷◌, ◌++◌, length, sym, ap, subst, ◌∙◌, arith}
+use Rattle.std.specs.Prelude.{filter, is_some, Contains}
 use Rattle.std.specs.List.{AllByRecursion as Each, range_with_len}
 use Rattle.std.proofs.lemmas.List.Elements.{All-nil, All-from_recursion}
-use Rattle.sf_types.specs.declared.call.Call.{Call}
 use Rattle.sf_types.specs.declared.history.Entry.{Entry}
-use Rattle.sf_types.specs.declared.history.Kind.{Kind}
-use Rattle.sf_types.specs.declared.history.Kind.TheVariants as kind
-use Rattle.sf_types.specs.declared.options.Options.{Options}
-use Rattle.sf_types.specs.Values.Marks.{births_in}
-use Rattle.sf_types.specs.Table.Parts.{Content, Promise, Table, opening_table}
-use Rattle.sf_types.specs.Table.Sessions.{has_session, session_of}
+use Rattle.sf_types.specs.Table.Parts.{Content, Table}
+use Rattle.sf_types.specs.Table.Sessions.{has_session}
 use Rattle.sf_types.specs.Calls.Steps.{step}
-use Rattle.sf_types.specs.Space.Due.{is_due}
-use Rattle.sf_types.specs.Space.Reach.{reach, session_births, values_in}
-use Rattle.sf_types.specs.Space.Placings.{Placed}
-use Rattle.sf_types.specs.Orders.Histories.{IsLegal, IsLegalHistory, history_table, effect_of, entry_effect, entry_of, call_entries, call_effect, table_after}
-use Rattle.sf_types.specs.Play.Blocks.{is_among, new_births, places_of_new}
-use Rattle.sf_types.specs.Halves.Own.{Own, own_of, own_after, own_due, is_event}
-use Rattle.sf_types.specs.Halves.Asks.{Half, Answer, Request, half_of, half_answer, kept_births, request_of, with_kept_births}
+use Rattle.sf_types.specs.Space.Reach.{reach}
+use Rattle.sf_types.specs.Orders.Histories.{IsLegalHistory, table_after}
+use Rattle.sf_types.specs.Play.Blocks.{new_births, places_of_new}
+use Rattle.sf_types.specs.Halves.Asks.{half_of}
 use Rattle.sf_stock.specs.Stocks.{is_stocked}
 use Rattle.sf_stock.specs.Stocks as stock
-use Rattle.sf_versions.specs.declared.asks.Ask.{Ask}
-use Rattle.sf_versions.specs.declared.asks.Batch.{Batch}
-use Rattle.sf_versions.specs.Asks.{IsAsk, request_of_part}
-use Rattle.sf_laws.specs.Halves.{Agrees}
 use Rattle.sf_laws.proofs.BlockSumLemmas.{counted_some}
 use Rattle.sf_laws.proofs.EachLemmas.{each_weaker}
-use Rattle.sf_laws.proofs.HalfLemmas.{stands_where, event_law, batch_by_half}
-use Rattle.sf_laws.proofs.HeldLemmas.{OfSession}
-use Rattle.sf_laws.proofs.HeldStepLemmas.{of_part}
-use Rattle.sf_laws.proofs.OwnLemmas.{due_by_own}
-use Rattle.sf_laws.proofs.OwnRunLemmas.{Stands, stands_after, run-append, legal-joined, shape_after}
+use Rattle.sf_laws.proofs.HalfLemmas.{stands_where}
 use Rattle.sf_laws.proofs.PlacingLemmas.{counted_among}
-use Rattle.sf_laws.proofs.ReachLemmas.{OfBirth, OfHeld, each_from_reach, each-session_births}
-use Rattle.sf_laws.proofs.StageLemmas.{IsBehind, is_behind}
-use Rattle.sf_laws.proofs.TurnMoveLemmas.{Quiet, quiet_on, quiet_entry, moves_quiet}
+use Rattle.sf_laws.proofs.TurnMoveLemmas.{Quiet, moves_quiet}
 use Rattle.sf_store_half.specs.declared.session_fields.SessionField.{SessionField}
 use Rattle.sf_store_half.specs.Fields.{Fields, Keeps}
-use Rattle.sf_store_half.specs.HalfMoves.{AreStocked, BringsStocked, HasField, IsRepacked, flushed_rows}
+use Rattle.sf_store_half.specs.HalfMoves.{AreStocked, HasField, IsRepacked}
 use Rattle.sf_book.specs.Books.{BookView, table_of, IsSound}
-use Rattle.sf_book.specs.Moves.{AreAway, IsBatch, IsMoved, own_with_batch, table_with_batch}
+use Rattle.sf_book.specs.Moves.{AreAway, IsMoved}
 use Rattle.sf_book.specs.Inside.Bodies.{IsBook, book_of, promise_count}
-use Rattle.sf_book.proofs.KeptBirthLemmas.{each_kept, each_brought}
-use Rattle.sf_book.proofs.MoveLemmas.{IsStep, Shape, session_count, shape_of_step, tests_agree, moved_by_step}
+use Rattle.sf_book.proofs.MoveLemmas.{IsStep, session_count, shape_of_step, tests_agree, moved_by_step}
 
 nothing_away : (b : BookView) → AreAway b []
 nothing_away b = record { below = All-nil _; once = λ i j d before less. absurd (omega (arith, less)); apart = All-nil _ }
