@@ -2,5 +2,6 @@ pub mod BatchLemmas
 pub mod KeptBirthLemmas
 pub mod MoveLemmas
 pub mod OpeningLemmas
+pub mod PromiseLemmas
 pub mod QuietLemmas
 pub mod RipeLemmas

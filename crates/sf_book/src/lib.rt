@@ -4,5 +4,6 @@
 mod book;
 mod entries;
 mod events;
+mod promises;
 
 pub use book::Book;
