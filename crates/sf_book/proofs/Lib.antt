@@ -1,4 +1,5 @@
 pub mod BatchLemmas
+pub mod CancelLemmas
 pub mod KeptBirthLemmas
 pub mod MoveLemmas
 pub mod OpeningLemmas

@@ -1,6 +1,8 @@
 //! Promises of blocks, and their ends without a publication.
-ghost use Rattle.std.specs.Prelude.{◌≡◌, [], ◌∷◌, ◌++◌, true, IfOk, OnOk, OnErr};
+ghost use Rattle.std.specs.Prelude.{◌≡◌, [], ◌∷◌, ◌++◌, true, IsTrue, IfOk, OnOk, OnErr};
+ghost use Rattle.std.specs.Option.{IfSome, IsSome};
 ghost use Rattle.sf_types.specs.declared.history.Kind.TheVariants as kind;
+ghost use Rattle.sf_types.specs.Table.Sessions.{has_session, session_of};
 ghost use Rattle.sf_types.specs.Orders.Histories.{call_entries, entry_of};
 ghost use Rattle.sf_types.specs.Space.Cuts.{cuts};
 ghost use Rattle.sf_types.specs.Halves.Own.{own_due};
@@ -17,6 +19,17 @@ use sf_types::{Call, Kind, Mem, TryCopy};
 use sf_versions::{Batch, Flush, Verdict};
 
 impl Book {
+    /// Ends the standing promise of a session, and not its call. The cancel goes into the history. It takes no memory.
+    pub fn cancel(&mut self, session: u16)
+        requires session { IsTrue (has_session (table_of self.old) session) }
+        requires promised { IsSome (session_of (table_of self.old) session).promise }
+        ensures { IfSome (session_of (table_of self.old) session).promise (λ promise. IsMoved self.old self.new (entry_of session kind.Cancel promise.call ∷ []) []) }
+    {
+        let call = self.half.cancel(session);
+        push_entry(&mut self.history, session, Kind::Cancel, call);
+        let _next = self.half.next_birth();
+    }
+
     // The verdict on a promise, of which the history gets a copy of the call.
     fn reserve_for(&mut self, session: u16, batch: Batch, flush: &Flush, call: Call) -> Mem<Verdict>
         requires batch { IsBatch (table_of self.old) session batch }
