@@ -1,2 +1,9 @@
-//! What the Book is seen as, and what its calls ask and do: definitions, and no code yet.
+//! The shared state of a store for any number of sessions: the store's half of the table, and the history of what was done.
 #![tactic(auto)]
+
+mod book;
+mod entries;
+mod events;
+mod promises;
+
+pub use book::Book;

@@ -127,6 +127,14 @@ impl StoreHalf {
         self.stock.parked()
     }
 
+    /// The number of the next birth. Its clause `sound` tells what holds of the stock of every store.
+    pub fn next_birth(&self) -> u128
+        ensures next { result ≡ self.now.stock.next }
+        ensures sound { IsSound self.now.stock }
+    {
+        self.stock.next_birth()
+    }
+
     /// Takes the first `max` parked blocks, or all where there are fewer, and puts their runs behind those of `into`, which has
     /// room for as many runs as blocks are taken. The answer is the number of the blocks. It takes no memory.
     pub fn take_ripe(&mut self, max: u64, into: &mut Runs) -> u64

@@ -1,0 +1,2 @@
+-- Words that serve the Book's own clauses and proofs.
+pub mod Bodies
