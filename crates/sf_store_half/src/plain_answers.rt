@@ -79,7 +79,7 @@ impl StoreHalf {
         Ok(Answer::Ended)
     }
 
-    // A rollback to a savepoint, which releases the locks of these rows.
+    // A rollback to a savepoint, which releases the locks of these rows. It is not there yet: its body always wants memory.
     pub(crate) fn answer_unlock(
         &mut self,
         session: u16,
@@ -113,7 +113,7 @@ impl StoreHalf {
         Ok(Answer::Committed(count))
     }
 
-    // A commit of an open transaction.
+    // A commit of an open transaction. It is not there yet: its body always wants memory.
     fn commit(&mut self, session: u16, changes: ChangeList, kept: Births) -> Mem<Answer>
         requires session { HasField self.old session }
         requires open { (field_at self.old session).is_open ≡ true }

@@ -14,6 +14,7 @@ use sf_versions::Flush;
 impl StoreHalf {
     /// Publishes a call to which blocks were promised: its new contents take these blocks in the order of the cuts. After want of
     /// memory nothing has changed.
+    /// It is not there yet: its body always wants memory.
     pub fn publish(&mut self, session: u16, runs: Runs, flush: Flush) -> Mem<Published>
         requires session { HasField self.old session }
         requires births { BringsStocked self.old flush.ask }

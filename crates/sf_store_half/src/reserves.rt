@@ -13,6 +13,7 @@ use sf_versions::{Flush, Verdict};
 impl StoreHalf {
     /// The verdict on the promise of a due call, of a session that holds these births before it. A promise is granted at the least
     /// floor at which the call fits. After want of memory nothing has changed.
+    /// It is not there yet: its body always wants memory.
     pub fn reserve(&mut self, session: u16, births: Births, flush: &Flush) -> Mem<Verdict>
         requires session { HasField self.old session }
         requires births { AreStocked self.old births }
