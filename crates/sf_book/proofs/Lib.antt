@@ -1,2 +1,8 @@
-pub mod KeepsLemmas
-pub mod StockLemmas
+pub mod BatchLemmas
+pub mod CancelLemmas
+pub mod KeptBirthLemmas
+pub mod MoveLemmas
+pub mod OpeningLemmas
+pub mod PromiseLemmas
+pub mod QuietLemmas
+pub mod RipeLemmas

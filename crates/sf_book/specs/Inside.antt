@@ -1,2 +1,2 @@
--- Words that serve the proofs of the Book's bodies.
-pub mod Fields
+-- Words that serve the Book's own clauses and proofs.
+pub mod Bodies

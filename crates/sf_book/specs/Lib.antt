@@ -1,3 +1,3 @@
 pub mod Books
-pub mod Moves
 pub mod Inside
+pub mod Moves

@@ -1,5 +1,9 @@
-//! What the Book is seen as, what its calls ask and do, and what its fields keep of the store's half: definitions and laws, and no
-//! code yet.
+//! The shared state of a store for any number of sessions: the store's half of the table, and the history of what was done.
 #![tactic(auto)]
 
-pub mod laws;
+mod book;
+mod entries;
+mod events;
+mod promises;
+
+pub use book::Book;
