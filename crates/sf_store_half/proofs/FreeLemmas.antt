@@ -16,7 +16,7 @@ use Rattle.sf_store_half.proofs.StockReachLemmas.{stocked_are_reached}
 field_blocks : (k : Kept) → promised_blocks (session_field k) ≡ kept_blocks k
 field_blocks k = elim k.promise as (λ o. promised_blocks (session_field (record k { promise = o })) ≡ kept_blocks (record k { promise = o })) [ None ↦ refl | Some q ↦ refl ]
 
-promised_are : (ks : List Kept) → sum_by promised_blocks (map session_field ks) ≡ sum_by kept_blocks ks
+pub promised_are : (ks : List Kept) → sum_by promised_blocks (map session_field ks) ≡ sum_by kept_blocks ks
 promised_are [] = refl
 promised_are (k ∷ ks) = omega (arith, sum_by-cons promised_blocks (session_field k) (map session_field ks), sum_by-cons kept_blocks k ks, field_blocks k, promised_are ks)
 

@@ -22,6 +22,7 @@ pub mod SettledLemmas
 pub mod StockLemmas
 pub mod StockReachLemmas
 pub mod TrialLemmas
+pub mod TriedCutLemmas
 pub mod TriedHalfLemmas
 pub mod TriedLemmas
 pub mod VersionHoldLemmas

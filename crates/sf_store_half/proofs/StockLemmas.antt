@@ -17,7 +17,7 @@ use Rattle.sf_types.specs.Halves.Flushes.{half_reach}
 use Rattle.sf_stock.specs.Stocks.{Stocked, IsSound, births_of, places_of, block_count, shared_birth, is_shared_with}
 use Rattle.sf_store_half.specs.Fields.{Fields, Keeps}
 
-blocks_by_births : (contents : List Content) (xs : List Stocked) → AllByRecursion (λ x. content_of contents x.birth ≡ Some x.content) xs → AllByRecursion (λ x. length x.blocks ≡ blocks_of (length x.content.bytes)) xs
+pub blocks_by_births : (contents : List Content) (xs : List Stocked) → AllByRecursion (λ x. content_of contents x.birth ≡ Some x.content) xs → AllByRecursion (λ x. length x.blocks ≡ blocks_of (length x.content.bytes)) xs
     → block_count xs ≡ blocks_of_births contents (births_of xs)
 blocks_by_births contents [] known counts = refl
 blocks_by_births contents (x ∷ xs) known counts =
@@ -38,7 +38,7 @@ use_by_stock f h reached keeps sound =
     (recursion_from_All (λ (x : Stocked). length x.blocks ≡ blocks_of (length x.content.bytes)) f.stock.stocked sound.counts)
     ∙ ap (blocks_of_births h.contents) reached
 
-found_by_births : (contents : List Content) (bytes : List ℕ) (xs : List Stocked) → AllByRecursion (λ x. content_of contents x.birth ≡ Some x.content) xs → shared_birth xs bytes ≡ find (is_shared_as contents bytes) (births_of xs)
+pub found_by_births : (contents : List Content) (bytes : List ℕ) (xs : List Stocked) → AllByRecursion (λ x. content_of contents x.birth ≡ Some x.content) xs → shared_birth xs bytes ≡ find (is_shared_as contents bytes) (births_of xs)
 found_by_births contents bytes [] known = refl
 found_by_births contents bytes (x ∷ xs) known =
     let rest = found_by_births contents bytes xs known.1 in

@@ -1,10 +1,11 @@
 -- What would be in reach once holders were given up and a session held other births (our own).
-use Rattle.std.specs.Prelude.{◌≡◌, ℕ, Bool, not, ◌&&◌, ◌||◌, List, filter}
+use Rattle.std.specs.Prelude.{◌≡◌, ℕ, Bool, false, not, ◌&&◌, ◌||◌, List, [], ◌∷◌, filter}
+use Rattle.std.specs.List.{AllByRecursion}
 use Rattle.sf_types.specs.declared.holder.Holder.{Holder}
 use Rattle.sf_types.specs.declared.holder.Holder.TheVariants as holder
 use Rattle.sf_retention.specs.declared.retention.Pair.{Pair}
 use Rattle.sf_lifetimes.specs.Ledgers.{Holdings, GivenUpView, freed_by, has_birth, is_live, without_holders}
-use Rattle.sf_stock.specs.Stocks.{Stocked, StockView, freed_blocks}
+use Rattle.sf_stock.specs.Stocks.{Stocked, StockView, freed_blocks, is_shared_with}
 
 -- Whether a birth would be reached where some holders held nothing, and a session these births.
 abbrev pub is_reached : Holdings → List Holder → List ℕ → ℕ → Bool
@@ -26,3 +27,8 @@ pub record IsGivenUpOf (stock : StockView) (given : GivenUpView) : Type 0 where
 -- The holder that a given up version is.
 abbrev pub version_of : Pair → Holder
 version_of p = holder.Version p.name p.from
+
+-- No two shared births of a stock have the same bytes.
+abbrev pub AreSharedOnce : List Stocked → Type 0
+AreSharedOnce [] = Unit {0}
+AreSharedOnce (x ∷ xs) = AllByRecursion (λ y. (x.content.is_shared && is_shared_with x.content.bytes y) ≡ false) xs × AreSharedOnce xs
