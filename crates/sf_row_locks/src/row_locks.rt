@@ -4,6 +4,7 @@ ghost use Rattle.std.specs.Bool.{OnTrue, OnFalse};
 ghost use Rattle.sf_types.specs.Rooms.{MakesRoom, GrowsWithin};
 ghost use Rattle.sf_types.specs.Inside.NameMaps.{get, with_entry, without_entry};
 ghost use Rattle.sf_types.specs.Table.Sessions.{is_busy, without_locks};
+ghost use Rattle.sf_types.specs.Halves.Asks.{without_row_locks};
 ghost use Rattle.sf_row_locks.specs.Locks.{locks_asked, locks_added, locks_released};
 ghost use Rattle.sf_row_locks.specs.Inside.Slots.{slot_of, row_in, row_count, locks_in, AreSlotted, ReleasesOne};
 
@@ -176,6 +177,19 @@ impl RowLocks {
                 &row,
                 slot,
             );
+        }
+    }
+
+    /// Releases those of some rows' locks that this session holds. It takes no memory, and time in proportion to the number of the
+    /// rows.
+    pub fn release_listed(&mut self, names: &[Name], session: u16)
+        ensures held { self.new.held ≡ without_row_locks self.old.held session names.now }
+        ensures spare { self.old.spare ≤ self.new.spare }
+    {
+        for name in names {
+            // The names of the locks rise.
+            let _ = self.locks.len();
+            self.release(name, session);
         }
     }
 

@@ -79,7 +79,7 @@ impl StoreHalf {
         Ok(Answer::Ended)
     }
 
-    // A rollback to a savepoint, which releases the locks of these rows. It is not there yet: its body always wants memory.
+    // A rollback to a savepoint, which releases the locks of these rows.
     pub(crate) fn answer_unlock(
         &mut self,
         session: u16,
@@ -90,7 +90,9 @@ impl StoreHalf {
         requires kept { AreStocked self.old kept }
         ensures { IsAnswered self.old self.new (λ h. (record (with_kept_births h session kept) { locks = without_row_locks h.locks session rows.now }, rule.Done)) result }
     {
-        Err(OutOfMemory)
+        self.note(session, kept)?;
+        self.release_rows(session, rows);
+        Ok(Answer::Done)
     }
 
     // A commit, which does no more than forget the savepoints where no transaction is open.

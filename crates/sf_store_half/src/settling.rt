@@ -1,6 +1,6 @@
 //! What is kept of a session after its call.
 ghost use Rattle.std.specs.Prelude.{◌≡◌, [], OnOk, OnErr};
-ghost use Rattle.sf_types.specs.Halves.Asks.{Half};
+ghost use Rattle.sf_types.specs.Halves.Asks.{Half, without_row_locks};
 ghost use Rattle.sf_types.specs.Table.Sessions.{without_locks};
 ghost use Rattle.sf_store_half.specs.Fields.{Keeps};
 ghost use Rattle.sf_store_half.specs.HalfMoves.{AreStocked, HasField, IsRepacked, field_at};
@@ -9,7 +9,7 @@ ghost use Rattle.sf_store_half.specs.Inside.Answered.{kept_as};
 use crate::session_fields::{field_of, set_field};
 use crate::stock_steps::keep_births;
 use crate::store_half::StoreHalf;
-use sf_types::{Births, Mem};
+use sf_types::{Births, List, Mem, Name};
 
 impl StoreHalf {
     // From now on a session holds these births, and its transaction is open and it has ended, or not. After want of memory
@@ -38,6 +38,13 @@ impl StoreHalf {
         ensures { self.new ≡ record self.old { locks = without_locks self.old.locks session } }
     {
         self.locks.release_all(session);
+    }
+
+    // Releases those of some rows' locks that a session holds.
+    pub(crate) fn release_rows(&mut self, session: u16, rows: &List<Name>)
+        ensures { self.new ≡ record self.old { locks = without_row_locks self.old.locks session rows.now } }
+    {
+        self.locks.release_listed(rows.as_slice(), session);
     }
 
     // Whether a transaction of a session is open.
