@@ -140,7 +140,7 @@ asked_stocked f history s batch ask keeps stocked behind event asks =
     let o = own_with_batch t s batch in
     let P = Contains (reach t) in
     record {
-      kept = are_stocked f t ask.kept keeps stocked (subst (Each P) (sym asks.kept) (each_kept P o ask.call behind.held event));
+      kept = are_stocked f t ask.kept keeps stocked (subst (Each P) (sym asks.kept) (each_kept P o ask.call behind.held));
       named = are_stocked f t (flat_map births_in (values_in (flushed_rows (request_of_part ask.part)))) keeps stocked
           (subst (λ (r : Request). Each P (flat_map births_in (values_in (flushed_rows r)))) (sym asks.part) (each_brought P o ask.call behind.held event));
     }

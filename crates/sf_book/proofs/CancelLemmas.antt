@@ -78,7 +78,7 @@ new_goes zero i = tt
 new_goes (suc n) zero = tt
 new_goes (suc n) (suc i) = new_goes n i
 
-promised_goes_on : (options : Options) (sessions : ℕ) (history : List Entry) → IsLegalHistory (opening_table options sessions) history → PromisedGoOn (history_table options sessions history)
+pub promised_goes_on : (options : Options) (sessions : ℕ) (history : List Entry) → IsLegalHistory (opening_table options sessions) history → PromisedGoOn (history_table options sessions history)
 promised_goes_on options sessions history legal = run_goes (opening_table options sessions) history legal (λ s there. new_goes sessions (s - 1))
 
 -- what the fields have of a session
@@ -87,10 +87,10 @@ get_map f [] i d = refl
 get_map f (x ∷ xs) zero d = refl
 get_map f (x ∷ xs) (suc i) d = get_map f xs i d
 
-abbrev field_of : Session → SessionField
+abbrev pub field_of : Session → SessionField
 field_of p = session_field (kept_of p)
 
-fields_of : (sessions : List Session) → map session_field (map kept_of sessions) ≡ map field_of sessions
+pub fields_of : (sessions : List Session) → map session_field (map kept_of sessions) ≡ map field_of sessions
 fields_of [] = refl
 fields_of (p ∷ ps) = ap (λ (xs : List SessionField). field_of p ∷ xs) (fields_of ps)
 

@@ -1,5 +1,5 @@
 -- What holds of the births of a session's own part holds of those that it keeps after an event.
-use Rattle.std.proofs.Common.{◌≡◌, ℕ, Bool, true, false, cond, List, [], Option, Some, None, refl}
+use Rattle.std.proofs.Common.{◌≡◌, ℕ, Bool, true, false, cond, List, [], ◌∷◌, Option, Some, None, refl}
 use Rattle.std.specs.Prelude.{flat_map, unwrap_or, is_some, is_none}
 use Rattle.std.specs.List.{AllByRecursion as Each}
 use Rattle.std.specs.Option.{option_map_or}
@@ -11,18 +11,19 @@ use Rattle.sf_types.specs.Inside.NameMaps.{NameMap, is_same_name, get, without_e
 use Rattle.sf_types.specs.Values.Marks.{Marked, Value, births_in, empty_value}
 use Rattle.sf_types.specs.Table.Parts.{Locator, Rows, Savepoint, Session}
 use Rattle.sf_types.specs.Table.Sessions.{lacks_room}
+use Rattle.sf_types.specs.Calls.WritingCalls.{written_name, result_of}
 use Rattle.sf_types.specs.Calls.RowCalls.{after_insert, after_delete, after_lock, after_select}
 use Rattle.sf_types.specs.Calls.Savepoints.{savepoint_named, no_savepoint, lost_locator, with_losses, is_since, after_rollback_to}
 use Rattle.sf_types.specs.Calls.TransactionEnds.{after_commit, after_rollback}
 use Rattle.sf_types.specs.Space.Reach.{session_births, values_in}
-use Rattle.sf_types.specs.Halves.Own.{Own, is_event}
+use Rattle.sf_types.specs.Halves.Own.{Own, held_value, is_event, own_row}
 use Rattle.sf_types.specs.Halves.Asks.{Request, request_by_working, request_of, kept_births, births_beside_locator}
 use Rattle.sf_types.specs.Halves.Asks as rule
 use Rattle.sf_laws.proofs.EachLemmas.{each_weaker, each-map, each-flat_map, each_found}
 use Rattle.sf_laws.proofs.EntryLemmas.{each-put, each-without, each_get}
 use Rattle.sf_laws.proofs.HeldLemmas.{OfOption, OfRows, OfSession}
-use Rattle.sf_laws.proofs.HeldStepLemmas.{of_unwrapped, of_committed, each-up_to}
-use Rattle.sf_laws.proofs.ReachLemmas.{OfBirth, each-births_in, each-values_in, each-session_births}
+use Rattle.sf_laws.proofs.HeldStepLemmas.{of_unwrapped, of_committed, of_result, each-up_to}
+use Rattle.sf_laws.proofs.ReachLemmas.{OfBirth, unstored_birth, each-births_in, each-values_in, each-session_births}
 use Rattle.sf_store_half.specs.HalfMoves.{flushed_rows}
 
 lost_holds : (M : Marked → Type 0) (b : Bool) (l : Locator) → Each M l.value.bytes → Each M (cond b (lost_locator l) l).value.bytes
@@ -84,29 +85,37 @@ of_commit : (P : ℕ → Type 0) (p : Session) (is_open : Bool) → OfSession (O
 of_commit P p true own = each-session_births P (after_commit p) (of_committed (OfBirth P) p own)
 of_commit P p false own = each-session_births P (record p { savepoints = [] }) (record { working = own.working; locators = own.locators; savepoints = tt })
 
-pub each_kept : (P : ℕ → Type 0) (o : Own) (c : Call) → OfSession (OfBirth P) o.part → is_event c ≡ true → Each P (kept_births o c)
-each_kept P o (call.Insert row) own event = each-session_births P (after_insert o.part row) (record {
+pub each_kept : (P : ℕ → Type 0) (o : Own) (c : Call) → OfSession (OfBirth P) o.part → Each P (kept_births o c)
+each_kept P o (call.Insert row) own = each-session_births P (after_insert o.part row) (record {
   working = each-put (λ e. OfOption (OfBirth P) e.1) o.part.working row (Some empty_value) tt own.working;
   locators = own.locators;
   savepoints = own.savepoints;
 })
-each_kept P o (call.Delete row) own event = each-session_births P (after_delete o.part row) (record {
+each_kept P o (call.Delete row) own = each-session_births P (after_delete o.part row) (record {
   working = each-put (λ e. OfOption (OfBirth P) e.1) o.part.working row None tt own.working;
   locators = own.locators;
   savepoints = own.savepoints;
 })
-each_kept P o (call.Lock to row) own event =
+each_kept P o (call.Lock to row) own =
     put_locator P o.part row (λ value. session_births (after_lock o.part to row (unwrap_or value empty_value))) (births_beside_locator o to) own (beside_locator P o to own)
     (λ value is. of_lock P o.part to row (unwrap_or value empty_value) own is)
-each_kept P o (call.Select to row) own event =
+each_kept P o (call.Select to row) own =
     put_locator P o.part row (λ value. session_births (after_select o.part to row (unwrap_or value empty_value))) (births_beside_locator o to) own (beside_locator P o to own)
     (λ value is. of_select P o.part to row (unwrap_or value empty_value) own is)
-each_kept P o (call.SelectAsOf to row n) own event = beside_locator P o to own
-each_kept P o (call.RollbackTo name) own event = gone_back P o.part name own
-each_kept P o call.Commit own event = of_commit P o.part o.part.is_open own
-each_kept P o call.Rollback own event = each-session_births P (after_rollback o.part) (record { working = tt; locators = of_losses (OfBirth P) (λ l. l.is_dirty) o.part.locators own.locators; savepoints = tt })
-each_kept P o call.End own event = tt
-each_kept P o c own event = absurd cc
+each_kept P o (call.SelectAsOf to row n) own = beside_locator P o to own
+each_kept P o (call.RollbackTo name) own = gone_back P o.part name own
+each_kept P o call.Commit own = of_commit P o.part o.part.is_open own
+each_kept P o call.Rollback own = each-session_births P (after_rollback o.part) (record { working = tt; locators = of_losses (OfBirth P) (λ l. l.is_dirty) o.part.locators own.locators; savepoints = tt })
+each_kept P o call.End own = tt
+each_kept P o c own = beside_written (written_name c)
+  where
+    beside_written : (x : Option (List ℕ)) → Each P (option_map_or {U = List ℕ} (λ at. session_births (record o.part { working = without_entry o.part.working (own_row o at); locators = without_entry o.part.locators at })) x [])
+    beside_written None = tt
+    beside_written (Some at) = each-session_births P (record o.part { working = without_entry o.part.working (own_row o at); locators = without_entry o.part.locators at }) (record {
+      working = each-without (λ e. OfOption (OfBirth P) e.1) o.part.working (own_row o at) own.working;
+      locators = each-without (λ e. Each (OfBirth P) e.1.value.bytes) o.part.locators at own.locators;
+      savepoints = own.savepoints;
+    })
 
 -- the births that an event brings to the store
 each_in_rows : (P : ℕ → Type 0) (rows : Rows) → OfRows (OfBirth P) rows → Each P (flat_map births_in (values_in rows))
@@ -141,3 +150,22 @@ each_brought P o call.Commit own event = each_in_rows P o.part.working own.worki
 each_brought P o call.Rollback own event = tt
 each_brought P o call.End own event = tt
 each_brought P o c own event = absurd cc
+
+-- the births that any call brings, where each locked row's value is known
+pub each_flushed : (P : ℕ → Type 0) (o : Own) (c : Call) → OfSession (OfBirth P) o.part → ((row : List ℕ) → OfOption (OfBirth P) (held_value o row)) → Each P (flat_map births_in (values_in (flushed_rows (request_of o c))))
+each_flushed P o (call.Insert row) own held = each_brought P o (call.Insert row) own refl
+each_flushed P o (call.Delete row) own held = each_brought P o (call.Delete row) own refl
+each_flushed P o (call.Lock to row) own held = each_brought P o (call.Lock to row) own refl
+each_flushed P o (call.Select to row) own held = each_brought P o (call.Select to row) own refl
+each_flushed P o (call.SelectAsOf to row n) own held = each_brought P o (call.SelectAsOf to row n) own refl
+each_flushed P o (call.RollbackTo name) own held = each_brought P o (call.RollbackTo name) own refl
+each_flushed P o call.Commit own held = each_brought P o call.Commit own refl
+each_flushed P o call.Rollback own held = each_brought P o call.Rollback own refl
+each_flushed P o call.End own held = each_brought P o call.End own refl
+each_flushed P o c own held = of_written (written_name c)
+  where
+    of_written : (x : Option (List ℕ)) → Each P (flat_map births_in (values_in (flushed_rows (option_map_or {U = Request} (λ at. rule.Settles (result_of o.part (held_value o (own_row o at)) at c)) x rule.Working))))
+    of_written None = tt
+    of_written (Some at) =
+        let value = result_of o.part (held_value o (own_row o at)) at c in
+        each_in_rows P (([], Some value) ∷ []) (of_result (OfBirth P) (unstored_birth P) o.part (held_value o (own_row o at)) at c own (held (own_row o at)), tt)

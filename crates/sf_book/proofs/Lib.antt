@@ -1,8 +1,12 @@
 pub mod BatchLemmas
 pub mod CancelLemmas
+pub mod CapacityLemmas
 pub mod KeptBirthLemmas
 pub mod MoveLemmas
 pub mod OpeningLemmas
 pub mod PromiseLemmas
+pub mod PublicationLemmas
 pub mod QuietLemmas
+pub mod ReadLemmas
 pub mod RipeLemmas
+pub mod ShiftLemmas

@@ -2,11 +2,14 @@
 use Rattle.std.specs.Prelude.{◌≢◌, ℕ, ◌≤◌, ◌<◌, List, ◌++◌, All, AllPairs}
 use Rattle.sf_types.specs.declared.history.Entry.{Entry}
 use Rattle.sf_types.specs.declared.options.Options.{Options}
+use Rattle.sf_types.specs.declared.place.Place.{Place}
 use Rattle.sf_types.specs.Limits.{IsInRange}
 use Rattle.sf_types.specs.declared.limits.TheConstants.{STORE_SESSIONS}
 use Rattle.sf_types.specs.Table.Parts.{Table, opening_table}
+use Rattle.sf_types.specs.Space.Grants.{maximal_runs}
 use Rattle.sf_types.specs.Space.Placings.{Placed, IsSafe, all_blocks}
 use Rattle.sf_types.specs.Orders.Histories.{IsLegalHistory, history_table}
+use Rattle.sf_types.specs.Orders.Transcripts.{place_of_birth}
 
 -- A Book: the options and the number of sessions of its store, what was done so far, where the births in reach stand, rising,
 -- and the parked blocks, the one that was parked first before the others. All else is a function of the history.
@@ -31,3 +34,7 @@ pub record IsSound (b : BookView) : Type 0 where
   pub safe : IsSafe (table_of b) b.places
   pub below : All (λ block. block < b.options.capacity) b.parked
   pub once : AllPairs (λ block other. block ≢ other) (all_blocks b.places ++ b.parked)
+
+-- How a place is listed: its birth with the length and the digest of its content, and the maximal runs of its blocks.
+abbrev pub listed_place : Table → Placed → Place
+listed_place t x = place_of_birth t x.birth (maximal_runs x.blocks)

@@ -5,5 +5,8 @@ mod book;
 mod entries;
 mod events;
 mod promises;
+mod publications;
+mod reads;
+mod shifts;
 
 pub use book::Book;
