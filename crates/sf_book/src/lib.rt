@@ -10,3 +10,4 @@ mod reads;
 mod shifts;
 
 pub use book::Book;
+pub use reads::Counts;

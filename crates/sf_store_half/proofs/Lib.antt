@@ -16,6 +16,7 @@ pub mod LiveLemmas
 pub mod NoteLemmas
 pub mod RaisedKeepsLemmas
 pub mod RaisedLemmas
+pub mod ReadLemmas
 pub mod RowAnswerLemmas
 pub mod SetLemmas
 pub mod SettledLemmas
@@ -25,4 +26,5 @@ pub mod TrialLemmas
 pub mod TriedCutLemmas
 pub mod TriedHalfLemmas
 pub mod TriedLemmas
+pub mod UncommittedLemmas
 pub mod VersionHoldLemmas

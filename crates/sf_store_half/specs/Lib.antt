@@ -1,3 +1,4 @@
 pub mod Fields
 pub mod HalfMoves
 pub mod Inside
+pub mod Reads

@@ -1,10 +1,9 @@
 -- The spans of rows and the versions at their places.
 use Rattle.std.proofs.Common.{◌≡◌, ℕ, zero, suc, ◌+◌, ◌<◌, ◌≤◌, true, false, cond, List, [], ◌∷◌, ◌++◌, length, get_or, Option, Some, None, ◌⊎◌, ⊎_elim, inl, inr, refl, sym, ap, subst, ◌∙◌, arith}
 use Rattle.std.specs.Prelude.{T, slice_get, unwrap_or}
+use Rattle.std.specs.Map.{keys_of}
 use Rattle.std.specs.Option.{option_map}
-use Rattle.std.specs.Ordering.{eq_by_cmp, is_eq, match_ordering}
-use Rattle.std.specs.declared.cmp.Ordering.{Ordering}
-use Rattle.std.specs.declared.cmp.Ordering.TheVariants.{Less, Equal, Greater}
+use Rattle.std.specs.Ordering.{eq_by_cmp}
 use Rattle.std.specs.Cmp.Lexicographic.{nat_list_cmp_total}
 use Rattle.std.specs.FinMap.{IsAntisymmetric, nat_cmp-IsAntisymmetric, slice_cmp-IsAntisymmetric}
 use Rattle.std.specs.FinMap.Entries.{is_sorted}
@@ -168,3 +167,12 @@ pub entry_shown : (vs : Ranked) (spans : NameMap Span) (k : ℕ) (e : List ℕ �
 entry_shown vs [] k e is = absurd cc
 entry_shown vs (f ∷ spans) zero e is = ap (option_map (λ (x : List ℕ × Span). (x.0, versions_in vs x.1))) is
 entry_shown vs (f ∷ spans) (suc k) e is = entry_shown vs spans k e is
+
+-- the rows are those of the spans
+pub rows_counted : (vs : Ranked) (spans : NameMap Span) → length (rows_in vs spans) ≡ length spans
+rows_counted vs [] = refl
+rows_counted vs (e ∷ spans) = ap suc (rows_counted vs spans)
+
+pub rows_named : (vs : Ranked) (spans : NameMap Span) → keys_of (rows_in vs spans) ≡ keys_of spans
+rows_named vs [] = refl
+rows_named vs (e ∷ spans) = ap (λ (names : List (List ℕ)). e.0 ∷ names) (rows_named vs spans)

@@ -1,8 +1,11 @@
 //! The versions of all rows.
 ghost use Rattle.std.specs.Prelude.{◌≡◌, ◌+◌, ◌-◌, ◌≤◌, ◌<◌, ◌^◌, length, slice_get, IfOk, OnOk};
+ghost use Rattle.std.specs.List.Sorted.{IsStrictlySortedBy};
+ghost use Rattle.std.specs.Map.{keys_of};
 ghost use Rattle.std.specs.Option.{option_copied, option_map};
 ghost use Rattle.sf_types.specs.Rooms.{MakesRoom, GrowsWithin};
 ghost use Rattle.sf_types.specs.Table.Versions.{value_or_absent};
+ghost use Rattle.sf_types.specs.Values.Names.{name_cmp};
 ghost use Rattle.sf_versions.specs.RowChanges.{change_up_to, last_number, last_value};
 ghost use Rattle.sf_versions.specs.VersionTables.{no_versions, versions_of, after_commit, without_version, IsDisplaced};
 ghost use Rattle.sf_versions.specs.Inside.Spans.{current_row};
@@ -120,6 +123,14 @@ impl Versions {
             return None;
         };
         Some(number_at(&self.versions, span.row, span.first + span.count - 1))
+    }
+
+    /// The number of rows that a commit names, whose names rise in byte order.
+    pub fn len(&self) -> usize
+        ensures len { result ≡ length self.now.held.rows }
+        ensures rising { IsStrictlySortedBy name_cmp (keys_of self.now.held.rows) }
+    {
+        self.spans.len()
     }
 
     /// The k-th row that a commit names, in byte order of names and counted from 0, and its value, None where it is absent. None
