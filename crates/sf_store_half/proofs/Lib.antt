@@ -26,3 +26,4 @@ pub mod TriedCutLemmas
 pub mod TriedHalfLemmas
 pub mod TriedLemmas
 pub mod VersionHoldLemmas
+mod DueLemmas
