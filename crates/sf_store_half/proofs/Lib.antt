@@ -27,3 +27,5 @@ pub mod TriedHalfLemmas
 pub mod TriedLemmas
 pub mod VersionHoldLemmas
 mod DueLemmas
+pub mod OnceLemmas
+pub mod FloorTrialLemmas

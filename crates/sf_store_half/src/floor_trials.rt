@@ -1,5 +1,5 @@
 //! Floors at which a promise is tried.
-ghost use Rattle.std.specs.Prelude.{◌≡◌, ◌+◌, ◌-◌, ◌≤◌, ◌++◌, false, map, drop, length, slice_get, sum_by, IfOk, IfSome, IfNone};
+ghost use Rattle.std.specs.Prelude.{◌≡◌, ◌+◌, ◌-◌, ◌≤◌, ◌++◌, ℕ, false, map, drop, length, slice_get, sum_by, IfOk, IfSome, IfNone};
 ghost use Rattle.std.specs.Option.{option_copied, option_map};
 ghost use Rattle.sf_retention.specs.Notes.{due_pairs, pair_of};
 ghost use Rattle.sf_stock.specs.Stocks.{block_count};
@@ -91,5 +91,77 @@ impl StoreHalf {
             free,
             given,
         })
+    }
+
+    // Tries a promise of a session at the store's floor.
+    fn first_trial(&self, session: u16, births: &Births, cuts: &[CutNote]) -> Mem<Trial<'_>>
+        requires births { AreStocked self.now births.now }
+        ensures trial { IfOk result (λ trial. IsTrial self.now session births.now cuts.now trial) }
+        ensures floor { IfOk result (λ trial. trial.floor ≡ self.now.floor) }
+    {
+        let given = self.stock.give_up().give_up(Holder::Session(session))?;
+        let (given, due) = give_up_due(&self.notes, given, 0, self.floor)?;
+        let trial = self.trial_of(self.floor, given, due, births, cuts)?;
+        Ok(trial)
+    }
+
+    // Tries a promise at a higher floor.
+    fn next_trial<'a>(
+        &self,
+        trial: Trial<'a>,
+        floor: u64,
+        births: &Births,
+        cuts: &[CutNote],
+    ) -> Mem<Trial<'a>>
+        requires births { AreStocked self.now births.now }
+        requires trial { (s : ℕ) × IsTrial self.now s births.now cuts.now trial }
+        requires low { self.now.floor ≤ trial.floor }
+        requires later { trial.floor ≤ floor }
+        requires high { floor ≤ self.now.versions.now }
+        ensures trial { IfOk result (λ next. (s : ℕ) → IsTrial self.now s births.now cuts.now trial.entry → IsTrial self.now s births.now cuts.now next) }
+        ensures floor { IfOk result (λ next. next.floor ≡ floor) }
+    {
+        // Along the notes the commits that displaced versions rise.
+        let _first = self.notes.get(0);
+        let Trial { due, given, .. } = trial;
+        let (given, due) = give_up_due(&self.notes, given, due, floor)?;
+        let next = self.trial_of(floor, given, due, births, cuts)?;
+        Ok(next)
+    }
+
+    // The next floor at which more versions are due, where a promise doesn't fit and the floor may rise.
+    fn next_floor(&self, trial: &Trial<'_>) -> Option<u64>
+        requires due { trial.now.due ≡ length (due_pairs self.now.notes trial.now.floor) }
+        requires alone { self.now.options.max ≡ false → trial.now.floor ≡ self.now.floor }
+        ensures next { IfSome result (IsNextFloor self.now trial.now) }
+        ensures none { IfNone result (IsLastTrial self.now trial.now) }
+    {
+        if trial.wanted <= trial.free || !self.options.max {
+            return None;
+        }
+        match self.notes.get(trial.due) {
+            Some(note) => Some(note.until),
+            None => None,
+        }
+    }
+
+    // Tries a promise of a session, from the store's floor up, to the first floor at which it fits or behind which no more
+    // versions are due.
+    pub(crate) fn find_floor(
+        &self,
+        session: u16,
+        births: &Births,
+        cuts: &[CutNote],
+    ) -> Mem<Trial<'_>>
+        requires births { AreStocked self.now births.now }
+        ensures trial { IfOk result (λ trial. IsTrial self.now session births.now cuts.now trial) }
+        ensures candidate { IfOk result (λ trial. IsCandidate self.now session births.now cuts.now trial.floor) }
+        ensures last { IfOk result (λ trial. IsLastTrial self.now trial) }
+    {
+        let mut trial = self.first_trial(session, births, cuts)?;
+        while let Some(floor) = self.next_floor(&trial) {
+            trial = self.next_trial(trial, floor, births, cuts)?;
+        }
+        Ok(trial)
     }
 }
