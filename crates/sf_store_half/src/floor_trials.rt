@@ -98,6 +98,7 @@ impl StoreHalf {
         requires births { AreStocked self.now births.now }
         ensures trial { IfOk result (λ trial. IsTrial self.now session births.now cuts.now trial) }
         ensures floor { IfOk result (λ trial. trial.floor ≡ self.now.floor) }
+        ensures within { self.now.floor ≤ self.now.versions.now }
     {
         let given = self.stock.give_up().give_up(Holder::Session(session))?;
         let (given, due) = give_up_due(&self.notes, given, 0, self.floor)?;
