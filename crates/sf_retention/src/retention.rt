@@ -1,5 +1,7 @@
 //! Versions that were displaced, in the order in which they leave.
-ghost use Rattle.std.specs.Prelude.{◌≡◌, ◌+◌, ◌≤◌, ◌<◌, [], ◌∷◌, ◌++◌, length, drop, All, IfOk, OnOk};
+ghost use Rattle.std.specs.Prelude.{◌≡◌, ◌+◌, ◌≤◌, ◌<◌, [], ◌∷◌, ◌++◌, length, drop, slice_get, All, IfOk, OnOk};
+ghost use Rattle.std.specs.List.Sorted.{IsNonDecreasingBy};
+ghost use Rattle.std.specs.Option.{option_copied};
 ghost use Rattle.sf_types.specs.Rooms.{MakesRoom, GrowsWithin};
 ghost use Rattle.sf_retention.specs.Notes.{due_pairs, note_of};
 
@@ -73,6 +75,14 @@ impl Retention {
         ensures { result ≡ length self.now.held }
     {
         self.notes.len()
+    }
+
+    /// The note that stands behind so many others. None exactly where there are no more. Along the notes `until` never falls.
+    pub fn get(&self, at: usize) -> Option<&Note>
+        ensures note { option_copied result ≡ slice_get self.now.held at }
+        ensures rising { IsNonDecreasingBy (λ note. note.until) self.now.held }
+    {
+        self.notes.get(at)
     }
 
     /// Notes that the version that commit `from` gave a row was displaced by commit `until`, which is at least that of every

@@ -8,6 +8,7 @@ pub mod SortLemmas
 pub mod ParkLemmas
 pub mod ReadLemmas
 pub mod ListLemmas
+pub mod SharedOnceLemmas
 pub mod ShiftLemmas
 pub mod SinceLemmas
 pub mod SoundLemmas

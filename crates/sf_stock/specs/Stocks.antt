@@ -1,6 +1,6 @@
 -- What a store keeps of contents: who holds them, where they stand, and the blocks of those that left (our own, after VLDB 2008).
-use Rattle.std.specs.Prelude.{◌≡◌, ◌≢◌, ℕ, ◌+◌, ◌≤◌, ◌<◌, ◌^◌, Bool, not, ◌&&◌, ◌==◌, bytes_eq, List, [], ◌∷◌, ◌++◌, map, length, drop, find, All, AllPairs, Contains, Option, true}
-use Rattle.std.specs.List.{filter, list_any}
+use Rattle.std.specs.Prelude.{◌≡◌, ◌≢◌, ℕ, ◌+◌, ◌≤◌, ◌<◌, ◌^◌, Bool, not, ◌&&◌, ◌==◌, bytes_eq, List, [], ◌∷◌, ◌++◌, map, length, drop, find, All, AllPairs, Contains, Option, true, false}
+use Rattle.std.specs.List.{AllByRecursion, filter, list_any}
 use Rattle.std.specs.Option.{option_map}
 use Rattle.std.specs.FinMap as fin
 use Rattle.sha2.specs.Sha256.{sha256}
@@ -157,15 +157,21 @@ pub record AreShifts (stock : StockView) (shifts : List Shift) : Type 0 where
   pub below : All (λ block. block < 2 ^ 32) (blocks_of_shifts shifts)
   pub once : AllPairs (λ block other. block ≢ other) (blocks_of_shifts shifts)
 
+-- No two shared births have the same bytes.
+abbrev pub AreSharedOnce : List Stocked → Type 0
+AreSharedOnce [] = Unit {0}
+AreSharedOnce (x ∷ xs) = AllByRecursion (λ y. (x.content.is_shared && is_shared_with x.content.bytes y) ≡ false) xs × AreSharedOnce xs
+
 -- What holds of every stock: births rise, and each is below the next one; each birth that somebody holds has a place; each has as
--- many blocks as its content takes, which is no longer than one may be; what left has a block; and all blocks are below 2^32 and
--- stand once.
+-- many blocks as its content takes, which is no longer than one may be; no two shared births have the same bytes; what left has a
+-- block; and all blocks are below 2^32 and stand once.
 pub record IsSound (stock : StockView) : Type 0 where
   pub rising : IsRising (births_of stock.stocked)
   pub before_next : All (λ x. x.birth < stock.next) stock.stocked
   pub held : (birth : ℕ) → is_live stock.holdings birth ≡ true → is_stocked stock.stocked birth ≡ true
   pub counts : All (λ x. length x.blocks ≡ blocks_of (length x.content.bytes)) stock.stocked
   pub sizes : All (λ x. length x.content.bytes ≤ CONTENT_BYTES) stock.stocked
+  pub shared_once : AreSharedOnce stock.stocked
   pub filled : All (λ x. 1 ≤ length x.blocks) stock.left
   pub below : All (λ block. block < 2 ^ 32) (stock_blocks stock)
   pub once : AllPairs (λ block other. block ≢ other) (stock_blocks stock)

@@ -183,6 +183,8 @@ impl Stock {
         ensures next { result ≡ self.now.held.next }
         ensures sound { IsSound self.now.held }
     {
+        // No two contents of the index have the same bytes.
+        let _ = self.index.len();
         self.next
     }
 

@@ -112,7 +112,7 @@ none_of_version true vs n from gone =
     either true = refl
     either false = refl
 
-versions_with : (rows : NameMap RowChanges) (name : List ℕ) (vs : RowChanges) (row : List ℕ) → versions_of (with_entry rows name vs) row ≡ cond (is_same_name row name) vs (versions_of rows row)
+pub versions_with : (rows : NameMap RowChanges) (name : List ℕ) (vs : RowChanges) (row : List ℕ) → versions_of (with_entry rows name vs) row ≡ cond (is_same_name row name) vs (versions_of rows row)
 versions_with rows name vs row =
     ap (λ o. unwrap_or o []) (get-put rows name vs row) ∙ either (is_same_name row name)
   where

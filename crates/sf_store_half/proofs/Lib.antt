@@ -28,3 +28,6 @@ pub mod TriedHalfLemmas
 pub mod TriedLemmas
 pub mod UncommittedLemmas
 pub mod VersionHoldLemmas
+mod DueLemmas
+pub mod OnceLemmas
+pub mod FloorTrialLemmas

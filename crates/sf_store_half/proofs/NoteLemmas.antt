@@ -26,7 +26,7 @@ notes_between commits first count = flat_map (displaced_by commits) (range_with_
 abbrev note_until : List Rows → ℕ → List ℕ × Option Value → Option Note
 note_until commits until e = option_map (λ from. note_of e.0 from until) (last_number (changes_of 0 (take (until - 1) commits) e.0))
 
-each_made : (commits : List Rows) (until : ℕ) (es : Rows) → Each (λ note. note.until ≡ until) (filter_map (note_until commits until) es)
+pub each_made : (commits : List Rows) (until : ℕ) (es : Rows) → Each (λ note. note.until ≡ until) (filter_map (note_until commits until) es)
 each_made commits until [] = tt
 each_made commits until (e ∷ es) = made (last_number (changes_of 0 (take (until - 1) commits) e.0)) (each_made commits until es)
   where

@@ -31,12 +31,12 @@ pub between_without : (before s : StockView) (ps : List Pair) → IsBetween befo
 between_without before s [] between = between
 between_without before s (p ∷ ps) between = between_without before (with_holder s (holder.Version p.name p.from) []) ps (between_held before s (with_births s.holdings (holder.Version p.name p.from) []) between)
 
-same_now : (t : VersionTable) (ps : List Pair) → (versions_without t ps).now ≡ t.now
+pub same_now : (t : VersionTable) (ps : List Pair) → (versions_without t ps).now ≡ t.now
 same_now t [] = refl
 same_now t (p ∷ ps) = same_now (without_version t p.name p.from) ps
 
 -- who is no version holds what it held
-others_hold : (m : Holdings) (ps : List Pair) (x : Holder) → ((row : List ℕ) (n : ℕ) → is_holder x (holder.Version row n) ≡ false) → held_by (holdings_without m ps) x ≡ held_by m x
+pub others_hold : (m : Holdings) (ps : List Pair) (x : Holder) → ((row : List ℕ) (n : ℕ) → is_holder x (holder.Version row n) ≡ false) → held_by (holdings_without m ps) x ≡ held_by m x
 others_hold m [] x apart = refl
 others_hold m (p ∷ ps) x apart =
     others_hold (with_births m (holder.Version p.name p.from) []) ps x apart
@@ -67,7 +67,7 @@ module _ (f : Fields) (h : Half) (floor : ℕ) (keeps : Keeps f h) (low : h.floo
       ∙ ap (due_pairs (notes_of h)) (sym up_to)
       ∙ due_are h.commits h.floor (floor - h.floor) (omega (arith, up_to, high))
 
-  notes_left : drop (length (due_pairs f.notes floor)) f.notes ≡ notes_of (half_at h floor)
+  pub notes_left : drop (length (due_pairs f.notes floor)) f.notes ≡ notes_of (half_at h floor)
   notes_left =
       let all = notes_between h.commits (h.floor + 1) (floor - h.floor) in
       ap (λ (ps : List Pair). drop (length ps) f.notes) pairs_due
@@ -76,7 +76,7 @@ module _ (f : Fields) (h : Half) (floor : ℕ) (keeps : Keeps f h) (low : h.floo
       ∙ behind all (filter (is_noted (h.floor + (floor - h.floor))) (notes_between h.commits 1 (length h.commits)))
       ∙ ap (λ n. filter (is_noted n) (notes_between h.commits 1 (length h.commits))) up_to
 
-  is_raised : IsRaised h.commits floor (due_pairs f.notes floor) f.versions f.stock.holdings
+  pub is_raised : IsRaised h.commits floor (due_pairs f.notes floor) f.versions f.stock.holdings
   is_raised =
       subst (λ ps. IsRaised h.commits floor ps f.versions f.stock.holdings) (sym pairs_due)
       (subst (λ n. IsRaised h.commits n (map pair_of (notes_between h.commits (h.floor + 1) (floor - h.floor))) f.versions f.stock.holdings) up_to

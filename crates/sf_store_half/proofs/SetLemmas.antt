@@ -36,6 +36,7 @@ kept_settled f promised s births is_open has_ended sessions now kept has sound s
     let k = record (kept_at h s) { births = births; is_open = is_open; has_ended = has_ended } in
     record {
       in_range = kept.in_range;
+      reached = kept.reached;
       count = kept.count ∙ sym (ap (sum_by promised_blocks) set ∙ promised_same f.sessions s is_open has_ended has.low has.high);
       few = kept.few;
       half = with_kept h s k;
@@ -50,6 +51,7 @@ kept_cancelled f promised s q sessions now kept has sound promise set is =
     let taken = promise_taken f.sessions sessions s q has.low has.high promise set in
     record {
       in_range = kept.in_range;
+      reached = kept.reached;
       count = omega (arith, kept.count, taken);
       few = omega (arith, kept.few);
       half = with_kept h s k;
@@ -60,6 +62,7 @@ kept_cancelled f promised s q sessions now kept has sound promise set is =
 pub kept_locked : (f : Fields) (promised : ℕ) (locks half_locks : NameMap ℕ) → (kept : AreKept f promised) → locks ≡ half_locks → AreKept (record f { locks = locks }) promised
 kept_locked f promised locks half_locks kept same = record {
   in_range = kept.in_range;
+  reached = kept.reached;
   count = kept.count;
   few = kept.few;
   half = record kept.half { locks = half_locks };
@@ -81,6 +84,7 @@ kept_taken f promised s births row has_ended locks sessions now kept has sound l
     let k = record (kept_at h s) { births = births; is_open = true; has_ended = has_ended } in
     record {
       in_range = kept.in_range;
+      reached = kept.reached;
       count = kept.count ∙ sym (ap (sum_by promised_blocks) set ∙ promised_same f.sessions s true has_ended has.low has.high);
       few = kept.few;
       half = record (with_kept h s k) { locks = with_lock h.locks s row };

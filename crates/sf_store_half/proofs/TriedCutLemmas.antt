@@ -15,11 +15,11 @@ use Rattle.sf_types.specs.Space.Contents.{blocks_of}
 use Rattle.sf_types.specs.Halves.Asks.{Half, Kept, new_kept, with_kept_births}
 use Rattle.sf_types.specs.Halves.Flushes.{half_at, half_free, half_reach, half_wanted_blocks, kept_blocks}
 use Rattle.sf_retention.specs.Notes.{due_pairs}
-use Rattle.sf_stock.specs.Stocks.{Stocked, IsSound, block_count, is_shared_with, is_stocked, shared_birth}
+use Rattle.sf_stock.specs.Stocks.{AreSharedOnce, Stocked, IsSound, block_count, is_shared_with, is_stocked, shared_birth}
 use Rattle.sf_store_half.specs.Fields.{Fields, Keeps, is_session}
 use Rattle.sf_store_half.specs.Inside.CutNotes.{blocks_for_all, notes_from, stocked_birth}
 use Rattle.sf_store_half.specs.Inside.Fields.{promised_blocks}
-use Rattle.sf_store_half.specs.Inside.Trials.{AreSharedOnce, is_reached, reached_stock, version_of}
+use Rattle.sf_store_half.specs.Inside.Trials.{is_reached, reached_stock, version_of}
 use Rattle.sf_store_half.proofs.CutNoteLemmas.{wanted_is}
 use Rattle.sf_store_half.proofs.StockLemmas.{blocks_by_births, found_by_births}
 use Rattle.sf_store_half.proofs.FreeLemmas.{promised_are}
@@ -67,10 +67,10 @@ each_passing P test (x ∷ xs) all =
     elim (test x.birth) as (λ t. Each P (cond t (x ∷ filter (λ y. test y.birth) xs) (filter (λ y. test y.birth) xs))) [ true ↦ (all.0, rest) | false ↦ rest ]
 
 -- the blocks that cuts want where a promise is tried
-pub wanted_where_tried : (f : Fields) (h : Half) (floor s : ℕ) (births : List ℕ) (cuts : List Cut) → Keeps f h → h.floor ≤ floor → floor ≤ length h.commits → is_session h s ≡ true → IsSound f.stock → AreSharedOnce f.stock.stocked
+pub wanted_where_tried : (f : Fields) (h : Half) (floor s : ℕ) (births : List ℕ) (cuts : List Cut) → Keeps f h → h.floor ≤ floor → floor ≤ length h.commits → is_session h s ≡ true → IsSound f.stock
     → All (λ b. is_stocked f.stock.stocked b ≡ true) births
     → blocks_for_all (is_reached f.stock.holdings (holder.Session s ∷ map version_of (due_pairs f.notes floor)) births) (notes_from f.stock.stocked [] 0 cuts) ≡ half_wanted_blocks (with_kept_births h s births) cuts floor
-wanted_where_tried f h floor s births cuts keeps low high is sound once brought =
+wanted_where_tried f h floor s births cuts keeps low high is sound brought =
     let test : ℕ → Bool = is_reached f.stock.holdings (holder.Session s ∷ map version_of (due_pairs f.notes floor)) births in
     let reach : List ℕ = half_reach (half_at (with_kept_births h s births) floor) in
     wanted_is test f.stock.stocked h.contents reach (λ cut. found cut cut.is_sharing refl) cuts
@@ -83,7 +83,7 @@ wanted_where_tried f h floor s births cuts keeps low high is sound once brought 
         ap (λ t. is_some (cond {A = Option ℕ} t (find (is_shared_as h.contents cut.bytes) (half_reach (half_at (with_kept_births h s births) floor))) None)) shares
         ∙ ap (λ bs. is_some (find (is_shared_as h.contents cut.bytes) bs)) (sym (tried_reach f h floor s births keeps low high is sound brought))
         ∙ ap (λ (o : Option ℕ). is_some o) (sym (found_by_births h.contents cut.bytes (filter (λ y. test y.birth) f.stock.stocked) (each_passing (λ x. content_of h.contents x.birth ≡ Some x.content) test f.stock.stocked known)))
-        ∙ found_where_passing test cut.bytes f.stock.stocked once
+        ∙ found_where_passing test cut.bytes f.stock.stocked sound.shared_once
         ∙ ap (λ t. option_map_or test (cond {A = Option ℕ} t (shared_birth f.stock.stocked cut.bytes) None) false) (sym shares)
     found cut false alone =
         let test : ℕ → Bool = is_reached f.stock.holdings (holder.Session s ∷ map version_of (due_pairs f.notes floor)) births in

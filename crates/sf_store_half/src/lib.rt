@@ -3,6 +3,8 @@
 
 mod answers;
 mod cut_notes;
+mod decisions;
+mod floor_trials;
 mod floors;
 pub mod laws;
 mod openings;

@@ -11,9 +11,11 @@ use Rattle.sf_store_half.specs.Fields.{Fields, Keeps}
 abbrev pub promised_blocks : SessionField → ℕ
 promised_blocks field = option_map_or (λ (promised : Promised). promised.blocks) field.promise 0
 
--- The promised blocks are counted, and no more than the capacity; and the fields keep some half of a table.
+-- The floor is no later than the last commit; the promised blocks are counted, and no more than the capacity; and the fields keep
+-- some half of a table.
 pub record AreKept (f : Fields) (promised : ℕ) : Type 0 where
   pub in_range : IsInRange f.options
+  pub reached : f.floor ≤ f.versions.now
   pub count : promised ≡ sum_by promised_blocks f.sessions
   pub few : promised ≤ f.options.capacity
   pub half : Half

@@ -6,4 +6,4 @@ use Rattle.sf_stock.proofs.stock.Stock.next_birth.Goals as goal
 pub returns-clause-sound : goal.returns-clause-sound
 returns-clause-sound c =
     let s = c.self.inside in
-    subst (λ v. IsSound v.held) c.self.view_is (sound s.ledger.held s.index.held s.known.held s.left.held s.parked.held s.next c.self.invariant.births c.self.invariant.blocks)
+    subst (λ v. IsSound v.held) c.self.view_is (sound s.ledger.held s.index.held s.known.held s.left.held s.parked.held s.next c.self.invariant.births c.len.ensures.distinct c.self.invariant.blocks)

@@ -31,6 +31,7 @@ invariant_of-result c =
     subst (λ (f : Fields). AreKept f 0) is
     (record {
       in_range = c.requires;
+      reached = omega arith;
       count = none;
       few = omega arith;
       half = half_of (opening_table c.args.options c.args.sessions);

@@ -10,4 +10,4 @@ invariant_of-self c =
     let kept = c.self.invariant in
     let f = the_view c.self.inside in
     subst (λ (stock : StockView). AreKept (record f { stock = stock }) c.self.inside.promised) (sym c.shift.ensures.held)
-    (record { in_range = kept.in_range; count = kept.count; few = kept.few; half = kept.half; keeps = keeps_shifted f kept.half c.args.shifts kept.keeps })
+    (record { in_range = kept.in_range; reached = kept.reached; count = kept.count; few = kept.few; half = kept.half; keeps = keeps_shifted f kept.half c.args.shifts kept.keeps })

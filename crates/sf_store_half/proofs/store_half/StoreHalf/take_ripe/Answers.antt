@@ -11,4 +11,4 @@ invariant_of-self c =
     let kept = c.self.invariant in
     let f = the_view c.self.inside in
     subst (λ (stock : StockView). AreKept (record f { stock = stock }) c.self.inside.promised) (sym c.take_ripe.ensures.held)
-    (record { in_range = kept.in_range; count = kept.count; few = kept.few; half = kept.half; keeps = keeps_parked f kept.half (drop c.take_ripe.result f.stock.parked) kept.keeps })
+    (record { in_range = kept.in_range; reached = kept.reached; count = kept.count; few = kept.few; half = kept.half; keeps = keeps_parked f kept.half (drop c.take_ripe.result f.stock.parked) kept.keeps })
