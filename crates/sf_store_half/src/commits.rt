@@ -76,13 +76,7 @@ fn take_notes(notes: &mut Retention, number: u64, displaced: List<Note>, count: 
 }
 
 // The new versions of a commit hold their births, and then a session these. There is room for all.
-fn hold_births(
-    stock: &mut Stock,
-    number: u64,
-    held: List<RowBirths>,
-    session: u16,
-    kept: Births,
-)
+fn hold_births(stock: &mut Stock, number: u64, held: List<RowBirths>, session: u16, kept: Births)
     requires births { CanHold stock.old.held number held kept }
     requires room { birth_count held + length kept ≤ stock.old.spare }
     ensures held { stock.new.held ≡ with_holder (stock_with stock.old.held number held) (Session session) kept }
