@@ -97,6 +97,17 @@ impl Retention {
         Ok(())
     }
 
+    /// Notes a displaced version as `note` does, within the room. It takes no memory.
+    pub fn note_within(&mut self, name: Name, from: u64, until: u64)
+        requires until { All (λ note. note.until ≤ until) self.old.held }
+        requires room { 1 ≤ self.old.spare }
+        ensures held { self.new.held ≡ self.old.held ++ note_of name from until ∷ [] }
+        ensures spare { self.old.spare ≤ self.new.spare + 1 }
+    {
+        // There is room, so that it takes no memory.
+        let _noted = self.note(name, from, until);
+    }
+
     /// The versions that were displaced by commit `floor` at the latest, in the order of their notes. It takes time in
     /// proportion to their number.
     pub fn due(&self, floor: u64) -> Mem<PairList>

@@ -1,7 +1,8 @@
 -- Words that serve the proofs of the bodies.
 pub mod Answered
-pub mod Fields
+pub mod Commits
 pub mod CutNotes
-pub mod Trials
+pub mod Fields
 pub mod Floors
 pub mod Promises
+pub mod Trials

@@ -2,6 +2,7 @@
 #![tactic(auto)]
 
 mod answers;
+mod commits;
 mod cut_notes;
 mod decisions;
 mod floor_trials;

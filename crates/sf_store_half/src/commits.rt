@@ -1,0 +1,129 @@
+//! What a commit makes of versions, notes and the stock.
+ghost use Rattle.std.specs.Prelude.{◌≡◌, ◌+◌, ◌-◌, ◌≤◌, ◌<◌, ◌^◌, ◌++◌, length, drop, All, IfOk};
+ghost use Rattle.sf_types.specs.declared.holder.Holder.TheVariants.{Session};
+ghost use Rattle.sf_types.specs.Calls.TransactionEnds.{floor_after};
+ghost use Rattle.sf_stock.specs.Stocks.{IsSound, with_holder};
+ghost use Rattle.sf_versions.specs.VersionTables.{after_commit};
+ghost use Rattle.sf_store_half.specs.Inside.Commits.{CanHold, IsPlan, birth_count, stock_with};
+ghost use Rattle.sf_store_half.specs.Inside.Floors.{AreDisplaced, stock_without, versions_without};
+
+use crate::floors::give_up;
+use sf_retention::{Note, PairList, Retention};
+use sf_stock::Stock;
+use sf_types::{Births, Holder, List, Mem, Name, Options, OutOfMemory};
+use sf_versions::{ChangeList, Versions};
+use std::alloc::Global;
+
+/// What a row's new version holds.
+#[derive(Drop)]
+pub struct RowBirths {
+    pub row: Name,
+    pub births: Births,
+}
+
+/// What a commit needs that takes memory, made before anything changes: its number; the floor after it; what the new versions
+/// hold, in the order of rows, and how many births that is; the notes of the versions that it displaces; and the versions that
+/// are due at the floor after it.
+#[derive(Drop)]
+pub struct CommitPlan {
+    pub number: u64,
+    pub floor: u64,
+    pub held: List<RowBirths>,
+    pub births: u64,
+    pub displaced: List<Note>,
+    pub due: PairList,
+}
+
+/// The plan of a commit, which takes time in proportion to its changes and to the versions that become due. A commit whose
+/// number isn't below 2^64 wants memory.
+pub fn plan_commit(
+    alloc: Global,
+    options: &Options,
+    versions: &Versions,
+    notes: &Retention,
+    floor: u64,
+    changes: &ChangeList,
+) -> Mem<CommitPlan>
+    ensures plan { IfOk result (λ plan. IsPlan versions.now.held notes.now.held changes.now plan) }
+    ensures floor { IfOk result (λ plan. plan.floor ≡ floor_after options.now floor (versions.now.held.now + 1)) }
+{
+    Err(OutOfMemory)
+}
+
+// Makes a commit for whose changes there is room.
+fn commit_within(versions: &mut Versions, changes: ChangeList)
+    requires within { versions.old.held.now < 2 ^ 64 - 1 }
+    requires room { length changes ≤ versions.old.spare }
+    ensures { versions.new.held ≡ after_commit versions.old.held changes }
+{
+    // There is room, so that it takes no memory.
+    let _number = versions.commit(changes);
+}
+
+// Puts the notes of commit `number`, for which there is room, behind the others, and takes the first `count` away.
+fn take_notes(notes: &mut Retention, number: u64, displaced: List<Note>, count: usize)
+    requires until { All (λ note. note.until ≤ number) notes.old.held }
+    requires displaced { All (λ note. note.until ≡ number) displaced }
+    requires count { count ≤ length (notes.old.held ++ displaced) }
+    requires room { length displaced ≤ notes.old.spare }
+    ensures { notes.new.held ≡ drop count (notes.old.held ++ displaced) }
+{
+    for note in displaced.into_vec() {
+        let Note { row, from, until } = note;
+        notes.note_within(row, from, until);
+    }
+    notes.done(count);
+}
+
+// The new versions of a commit hold their births, and then a session these. There is room for all.
+fn hold_births(stock: &mut Stock, number: u64, held: List<RowBirths>, session: u16, kept: Births)
+    requires births { CanHold stock.old.held number held kept }
+    requires room { birth_count held + length kept ≤ stock.old.spare }
+    ensures held { stock.new.held ≡ with_holder (stock_with stock.old.held number held) (Session session) kept }
+    ensures sound { IsSound stock.old.held }
+{
+    let _sound = stock.next_birth();
+    for own in held.into_vec() {
+        let RowBirths { row, births } = own;
+        stock.hold(Holder::Version(row, number), births);
+    }
+    stock.hold(Holder::Session(session), kept);
+}
+
+/// Makes a planned commit: each row that it names gets its version, which holds its births; then the session holds `kept`; and
+/// the versions that are due are given up. The births that nobody holds any more then wait to be parked. It takes no memory.
+pub fn make_commit(
+    versions: &mut Versions,
+    notes: &mut Retention,
+    stock: &mut Stock,
+    changes: ChangeList,
+    plan: CommitPlan,
+    session: u16,
+    kept: Births,
+)
+    requires plan { IsPlan versions.old.held notes.old.held changes plan }
+    requires notes { All (λ note. note.until ≤ plan.number) notes.old.held }
+    requires due { AreDisplaced (after_commit versions.old.held changes) plan.due }
+    requires births { CanHold stock.old.held plan.number plan.held kept }
+    requires versions_room { length changes ≤ versions.old.spare }
+    requires notes_room { length plan.displaced ≤ notes.old.spare }
+    requires stock_room { plan.births + length kept ≤ stock.old.spare }
+    ensures versions { versions.new.held ≡ versions_without (after_commit versions.old.held changes) plan.due }
+    ensures notes { notes.new.held ≡ drop (length plan.due) (notes.old.held ++ plan.displaced) }
+    ensures stock { stock.new.held ≡ stock_without (with_holder (stock_with stock.old.held plan.number plan.held) (Session session) kept) plan.due }
+    ensures sound { IsSound stock.old.held }
+    ensures after { IsSound stock.new.held }
+{
+    let CommitPlan {
+        number,
+        held,
+        displaced,
+        due,
+        ..
+    } = plan;
+    commit_within(versions, changes);
+    take_notes(notes, number, displaced, due.len());
+    hold_births(stock, number, held, session, kept);
+    give_up(versions, stock, due);
+    let _after = stock.next_birth();
+}
