@@ -1,10 +1,11 @@
 -- Plans of commits: the notes of what is displaced, and how many versions are due.
-use Rattle.std.proofs.Common.{◌≡◌, ℕ, ◌+◌, ◌≤◌, Bool, true, false, cond, List, [], ◌∷◌, ◌++◌, length, Option, Some, None, refl, sym, ap, subst, ◌∙◌, arith}
-use Rattle.std.specs.Prelude.{All, filter, filter_map, map, nat_le}
+use Rattle.std.proofs.Common.{◌≡◌, ℕ, zero, suc, ◌+◌, ◌≤◌, Bool, true, false, cond, List, [], ◌∷◌, ◌++◌, length, Option, Some, None, refl, sym, ap, subst, ◌∙◌, arith}
+use Rattle.std.specs.Prelude.{All, drop, filter, filter_map, map, nat_le, slice_get}
 use Rattle.std.specs.List.{AllByRecursion as Each, cons_option}
 use Rattle.std.specs.Option.{option_map}
 use Rattle.std.proofs.lemmas.List.{length-map}
 use Rattle.std.proofs.lemmas.List.Elements.{All-from_recursion}
+use Rattle.sf_types.specs.Values.Marks.{Value}
 use Rattle.sf_types.specs.Table.Parts.{Rows}
 use Rattle.sf_retention.specs.declared.retention.Note.{Note}
 use Rattle.sf_retention.specs.Notes.{due_pairs, note_of, pair_of}
@@ -39,3 +40,25 @@ fewer p (note ∷ notes) =
 
 pub few_due : (notes : List Note) (floor : ℕ) → length (due_pairs notes floor) ≤ length notes
 few_due notes floor = omega (arith, length-map (filter (λ note. nat_le note.until floor) notes) pair_of, fewer (λ note. nat_le note.until floor) notes)
+
+-- ---- the change at a position, and those behind it
+pub next_change : (rows : Rows) (at : ℕ) (e : List ℕ × Option Value) → slice_get rows at ≡ Some e → drop at rows ≡ e ∷ drop (at + 1) rows
+next_change [] at e is = absurd cc
+next_change (x ∷ rows) zero e is = let same : x ≡ e = cc in ap (λ (y : List ℕ × Option Value). y ∷ rows) same
+next_change (x ∷ rows) (suc at) e is =
+    let up : suc (at + 1) ≡ suc at + 1 = omega arith in
+    next_change rows at e is ∙ ap (λ n. e ∷ drop n (x ∷ rows)) up
+
+pub no_change : (rows : Rows) (at : ℕ) → slice_get rows at ≡ None → drop at rows ≡ []
+no_change [] zero is = refl
+no_change [] (suc at) is = refl
+no_change (x ∷ rows) zero is = absurd cc
+no_change (x ∷ rows) (suc at) is = no_change rows at is
+
+-- what a commit displaces, its first row first
+pub displaced_first : (t : VersionTable) (e : List ℕ × Option Value) (rows : Rows) → displaced_notes t (e ∷ rows) ≡ displaced_notes t (e ∷ []) ++ displaced_notes t rows
+displaced_first t e rows = by_last (last_number (versions_of t.rows e.0))
+  where
+    by_last : (o : Option ℕ) → cons_option (option_map (λ from. note_of e.0 from (t.now + 1)) o) (displaced_notes t rows) ≡ cons_option (option_map (λ from. note_of e.0 from (t.now + 1)) o) [] ++ displaced_notes t rows
+    by_last None = refl
+    by_last (Some from) = refl

@@ -1,17 +1,18 @@
 //! What a commit makes of versions, notes and the stock.
-ghost use Rattle.std.specs.Prelude.{◌≡◌, ◌+◌, ◌-◌, ◌≤◌, ◌<◌, ◌^◌, ◌++◌, length, drop, All, IfOk};
+ghost use Rattle.std.specs.Prelude.{◌≡◌, ◌+◌, ◌-◌, ◌≤◌, ◌<◌, ◌^◌, ◌++◌, [], ◌∷◌, length, drop, All, IfOk, OnOk};
 ghost use Rattle.sf_types.specs.declared.holder.Holder.TheVariants.{Session};
 ghost use Rattle.sf_types.specs.Calls.TransactionEnds.{floor_after};
+ghost use Rattle.sf_retention.specs.Notes.{due_pairs};
 ghost use Rattle.sf_stock.specs.Stocks.{IsSound, with_holder};
 ghost use Rattle.sf_versions.specs.VersionTables.{after_commit};
-ghost use Rattle.sf_store_half.specs.Inside.Commits.{CanHold, IsPlan, birth_count, stock_with};
+ghost use Rattle.sf_store_half.specs.Inside.Commits.{CanHold, IsPlan, birth_count, births_of_change, displaced_notes, row_births, stock_with};
 ghost use Rattle.sf_store_half.specs.Inside.Floors.{AreDisplaced, stock_without, versions_without};
 
 use crate::floors::give_up;
-use sf_retention::{Note, PairList, Retention};
+use sf_retention::{Note, Pair, PairList, Retention, horizon};
 use sf_stock::Stock;
-use sf_types::{Births, Holder, List, Mem, Name, Options, OutOfMemory};
-use sf_versions::{ChangeList, Versions};
+use sf_types::{Births, Holder, List, Mem, Name, Options, OutOfMemory, TryCopy};
+use sf_versions::{Change, ChangeList, Versions};
 use std::alloc::Global;
 
 /// What a row's new version holds.
@@ -34,6 +35,124 @@ pub struct CommitPlan {
     pub due: PairList,
 }
 
+// What a row's new version holds.
+fn births_of(alloc: Global, change: &Change) -> Mem<RowBirths>
+    ensures { IfOk result (λ own. own ≡ births_of_change change.now) }
+{
+    let row = change.name.copy()?;
+    let births = match &change.value {
+        Some(map) => map.births()?,
+        None => Births::new(alloc),
+    };
+    Ok(RowBirths { row, births })
+}
+
+// What the new versions of a commit hold, row by row.
+fn row_births(alloc: Global, changes: &ChangeList) -> Mem<List<RowBirths>>
+    ensures { IfOk result (λ held. held ≡ row_births changes.now) }
+{
+    // There are no more changes than a count can tell.
+    let _count = changes.len();
+    let mut held = List::new(alloc);
+    let mut at = 0;
+    while let Some(change) = changes.get(at) {
+        held.push(births_of(alloc, change)?)?;
+        at += 1;
+    }
+    Ok(held)
+}
+
+// How many births the new versions hold.
+fn birth_count(held: &[RowBirths]) -> Mem<u64>
+    ensures { IfOk result (λ births. births ≡ birth_count held.now) }
+{
+    let mut births = 0u64;
+    for own in held {
+        let Some(sum) = births.checked_add(own.births.as_slice().len() as u64) else {
+            return Err(OutOfMemory);
+        };
+        births = sum;
+    }
+    Ok(births)
+}
+
+// Puts the note of the version that a change displaces behind others, where the row has one. After want of memory nothing has
+// changed.
+fn note_displaced(
+    versions: &Versions,
+    number: u64,
+    change: &Change,
+    notes: &mut List<Note>,
+) -> Mem<()>
+    requires { number ≡ versions.now.held.now + 1 }
+    ensures { OnOk result (notes.new ≡ notes.old ++ displaced_notes versions.now.held (change.now ∷ [])) }
+{
+    match versions.last(&change.name) {
+        Some(from) => notes.push(Note {
+            row: change.name.copy()?,
+            from,
+            until: number,
+        }),
+        None => Ok(()),
+    }
+}
+
+// The notes of the versions that a commit displaces, row by row.
+fn displaced_notes(
+    alloc: Global,
+    versions: &Versions,
+    number: u64,
+    changes: &ChangeList,
+) -> Mem<List<Note>>
+    requires { number ≡ versions.now.held.now + 1 }
+    ensures { IfOk result (λ notes. notes ≡ displaced_notes versions.now.held changes.now) }
+{
+    // There are no more changes than a count can tell.
+    let _count = changes.len();
+    let mut notes = List::new(alloc);
+    let mut at = 0;
+    while let Some(change) = changes.get(at) {
+        note_displaced(versions, number, change, &mut notes)?;
+        at += 1;
+    }
+    Ok(notes)
+}
+
+// Puts the version of a note behind others, where it is due.
+fn push_due(due: &mut PairList, note: &Note, floor: u64) -> Mem<()>
+    ensures { OnOk result (due.new ≡ due.old ++ due_pairs (note.now ∷ []) floor) }
+{
+    if note.until <= floor {
+        due.push(Pair {
+            name: note.row.copy()?,
+            from: note.from,
+        })
+    } else {
+        Ok(())
+    }
+}
+
+// The versions that are due at a floor, once these notes stand behind the others.
+fn due_versions(notes: &Retention, displaced: &[Note], floor: u64) -> Mem<PairList>
+    ensures { IfOk result (λ due. due ≡ due_pairs (notes.now.held ++ displaced.now) floor) }
+{
+    let mut due = notes.due(floor)?;
+    for note in displaced {
+        push_due(&mut due, note, floor)?;
+    }
+    Ok(due)
+}
+
+// The floor after a commit that makes the number of commits `number`.
+fn floor_after(options: &Options, floor: u64, number: u64) -> u64
+    ensures { result ≡ floor_after options.now floor number }
+{
+    if options.max {
+        return floor;
+    }
+    floor.max(horizon(number, options.retention))
+}
+
 /// The plan of a commit, which takes time in proportion to its changes and to the versions that become due. A commit whose
 /// number isn't below 2^64 wants memory.
 pub fn plan_commit(
@@ -47,7 +166,22 @@ pub fn plan_commit(
     ensures plan { IfOk result (λ plan. IsPlan versions.now.held notes.now.held changes.now plan) }
     ensures floor { IfOk result (λ plan. plan.floor ≡ floor_after options.now floor (versions.now.held.now + 1)) }
 {
-    Err(OutOfMemory)
+    let Some(number) = versions.now().checked_add(1) else {
+        return Err(OutOfMemory);
+    };
+    let floor = floor_after(options, floor, number);
+    let held = row_births(alloc, changes)?;
+    let births = birth_count(held.as_slice())?;
+    let displaced = displaced_notes(alloc, versions, number, changes)?;
+    let due = due_versions(notes, displaced.as_slice(), floor)?;
+    Ok(CommitPlan {
+        number,
+        floor,
+        held,
+        births,
+        displaced,
+        due,
+    })
 }
 
 // Makes a commit for whose changes there is room.
