@@ -118,7 +118,7 @@ within_last before (c ∷ cs) row =
       | Some x ↦ (omega arith, later)
     ]
 
-changes_split : (before : ℕ) (cs : List Rows) (row : List ℕ) (k : ℕ) → k ≤ length cs → changes_of before cs row ≡ changes_of before (take k cs) row ++ changes_of (before + k) (drop k cs) row
+pub changes_split : (before : ℕ) (cs : List Rows) (row : List ℕ) (k : ℕ) → k ≤ length cs → changes_of before cs row ≡ changes_of before (take k cs) row ++ changes_of (before + k) (drop k cs) row
 changes_split before cs row zero within = ap (λ n. changes_of n cs row) (omega arith)
 changes_split before [] row (suc k) within = absurd (omega (arith, within))
 changes_split before (c ∷ cs) row (suc k) within =
@@ -177,7 +177,7 @@ one_more (d ∷ cs) (suc k) c rest at = ap (λ n. take n (d ∷ cs)) up ∙ ap (
     up : suc k + 1 ≡ suc (k + 1)
     up = omega arith
 
-changes_pushed : (before : ℕ) (cs : List Rows) (c : Rows) (row : List ℕ) → changes_of before (cs ++ c ∷ []) row ≡ changes_of before cs row ++ changes_of (before + length cs) (c ∷ []) row
+pub changes_pushed : (before : ℕ) (cs : List Rows) (c : Rows) (row : List ℕ) → changes_of before (cs ++ c ∷ []) row ≡ changes_of before cs row ++ changes_of (before + length cs) (c ∷ []) row
 changes_pushed before [] c row = ap (λ n. changes_of n (c ∷ []) row) (omega arith)
 changes_pushed before (d ∷ cs) c row =
     let rest = changes_pushed (before + 1) cs c row ∙ ap (λ n. changes_of (before + 1) cs row ++ changes_of n (c ∷ []) row) (omega arith) in

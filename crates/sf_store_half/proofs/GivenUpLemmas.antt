@@ -70,7 +70,7 @@ head_gone from y rest n past =
 head_there : (from : ℕ) (y : Option Value) (rest : RowChanges) → IsSome (value_for nat_cmp ((from, y) ∷ rest) from)
 head_there from y rest = subst (λ r. IsSome (cond (is_eq r) (Some y) (value_for nat_cmp rest from))) (nat_cmp_is from from Equal refl) refl
 
-tail_last : (v w : ℕ × Option Value) (vs : RowChanges) → last_number (v ∷ w ∷ vs) ≡ last_number (w ∷ vs)
+pub tail_last : (v w : ℕ × Option Value) (vs : RowChanges) → last_number (v ∷ w ∷ vs) ≡ last_number (w ∷ vs)
 tail_last v w vs = let next : length (v ∷ w ∷ vs) - 1 ≡ suc (length (w ∷ vs) - 1) = omega arith in ap (λ n. option_map (λ (x : ℕ × Option Value). x.0) (slice_get (v ∷ w ∷ vs) n)) next
 
 each_last_number : (f : ℕ) (vs : RowChanges) → Each (λ v. f < v.0) vs → IfSome (last_number vs) (λ last. f < last)
@@ -87,7 +87,7 @@ abbrev pub HoldVersions : Holdings → VersionTable → Type 0
 HoldVersions m t = (row : List ℕ) (n : ℕ) → held_by m (holder.Version row n) ≡ births_of_version (versions_of t.rows row) n
 
 -- whether two versions are one
-version_is : (row : List ℕ) (n : ℕ) (name : List ℕ) (from : ℕ) → is_holder (holder.Version row n) (holder.Version name from) ≡ (is_same_name row name && eq_by_cmp nat_cmp n from)
+pub version_is : (row : List ℕ) (n : ℕ) (name : List ℕ) (from : ℕ) → is_holder (holder.Version row n) (holder.Version name from) ≡ (is_same_name row name && eq_by_cmp nat_cmp n from)
 version_is row n name from = both (nat_cmp n from) (name_cmp row name)
   where
     never : (q : Ordering) → false ≡ (is_eq q && false)

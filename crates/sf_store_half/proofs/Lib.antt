@@ -1,9 +1,15 @@
 pub mod AnswerLemmas
 pub mod BetweenLemmas
 pub mod BlockLemmas
+pub mod CommitAnswerLemmas
+pub mod CommitKeepsLemmas
+pub mod CommitLemmas
+pub mod CommitNoteLemmas
 pub mod CutNoteLemmas
+mod DueLemmas
 pub mod FieldLemmas
 pub mod FloorLemmas
+pub mod FloorTrialLemmas
 pub mod FlushLemmas
 pub mod FreeLemmas
 pub mod GivenUpLemmas
@@ -14,6 +20,7 @@ pub mod KeepsLemmas
 pub mod KeptRowLemmas
 pub mod LiveLemmas
 pub mod NoteLemmas
+pub mod OnceLemmas
 pub mod PlanLemmas
 pub mod RaisedKeepsLemmas
 pub mod RaisedLemmas
@@ -29,6 +36,3 @@ pub mod TriedHalfLemmas
 pub mod TriedLemmas
 pub mod UncommittedLemmas
 pub mod VersionHoldLemmas
-mod DueLemmas
-pub mod OnceLemmas
-pub mod FloorTrialLemmas

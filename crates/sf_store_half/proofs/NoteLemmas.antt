@@ -44,11 +44,11 @@ all_taken : (p : Note → Bool) (notes : List Note) → Each (λ note. p note �
 all_taken p [] all = refl
 all_taken p (note ∷ notes) all = ap (λ t. cond {A = List Note} t (note ∷ filter p notes) (filter p notes)) all.0 ∙ ap (λ (ns : List Note). note ∷ ns) (all_taken p notes all.1)
 
-each_note : (P Q : Note → Type 0) (notes : List Note) → ((note : Note) → P note → Q note) → Each P notes → Each Q notes
+pub each_note : (P Q : Note → Type 0) (notes : List Note) → ((note : Note) → P note → Q note) → Each P notes → Each Q notes
 each_note P Q [] to all = tt
 each_note P Q (note ∷ notes) to all = (to note all.0, each_note P Q notes to all.1)
 
-past_noted : (commits : List Rows) (k until : ℕ) → k < until → filter (is_noted k) (displaced_by commits until) ≡ displaced_by commits until
+pub past_noted : (commits : List Rows) (k until : ℕ) → k < until → filter (is_noted k) (displaced_by commits until) ≡ displaced_by commits until
 past_noted commits k until past =
     all_taken (is_noted k) (displaced_by commits until)
     (each_note (λ note. note.until ≡ until) (λ note. is_noted k note ≡ true) (displaced_by commits until) (λ note is. let after : k < note.until = omega (arith, is, past) in grind (arith, nat_tests)) (each_made commits until (slice_index_or commits (until - 1) [])))

@@ -72,7 +72,7 @@ promise_taken xs after s promised low high is set =
 
 -- ---- a session that holds other births
 module _ (f : Fields) (h : Half) (s : ℕ) (k : Kept) (keeps : Keeps f h) (is : is_session h s ≡ true) where
-  settled_held : k.promise ≡ (kept_at h s).promise → (x : Holder) → held_by (with_births f.stock.holdings (holder.Session s) k.births) x ≡ held_in (with_kept h s k) x
+  pub settled_held : k.promise ≡ (kept_at h s).promise → (x : Holder) → held_by (with_births f.stock.holdings (holder.Session s) k.births) x ≡ held_in (with_kept h s k) x
   settled_held same (holder.Version row n) = held_after f.stock.holdings (holder.Session s) k.births (holder.Version row n) ∙ keeps.held (holder.Version row n)
   settled_held same (holder.Session t) =
       held_after f.stock.holdings (holder.Session s) k.births (holder.Session t)

@@ -9,6 +9,8 @@ ghost use Rattle.sf_types.specs.declared.call.Call.TheVariants as call;
 ghost use Rattle.sf_store_half.specs.HalfMoves.{AreStocked, HasField, field_at};
 ghost use Rattle.sf_store_half.specs.Inside.Answered.{IsAnswered, kept_as};
 
+use crate::commits::{make_commit, plan_commit};
+use crate::session_fields::set_field;
 use crate::store_half::StoreHalf;
 use sf_types::{Births, Call, Fault, List, Mem, Name, OutOfMemory};
 use sf_versions::{Answer, ChangeList};
@@ -115,7 +117,7 @@ impl StoreHalf {
         Ok(Answer::Committed(count))
     }
 
-    // A commit of an open transaction. It is not there yet: its body always wants memory.
+    // A commit of an open transaction. After want of memory nothing has changed.
     fn commit(&mut self, session: u16, changes: ChangeList, kept: Births) -> Mem<Answer>
         requires session { HasField self.old session }
         requires open { (field_at self.old session).is_open ≡ true }
@@ -123,6 +125,30 @@ impl StoreHalf {
         requires named { AreStocked self.old (flat_map births_in (values_in changes)) }
         ensures { IsAnswered self.old self.new (λ h. half_answer h session call.Commit (rule.Commits changes) kept) result }
     {
-        Err(OutOfMemory)
+        let alloc = *self.sessions.allocator();
+        let has_ended = self.has_ended(session);
+        let (versions, notes) = (&self.versions, &self.notes);
+        let plan = plan_commit(alloc, &self.options, versions, notes, self.floor, &changes)?;
+        let Some(births) = plan.births.checked_add(kept.as_slice().len() as u64) else {
+            return Err(OutOfMemory);
+        };
+        self.versions.make_room(changes.len() as u64)?;
+        self.notes.make_room(plan.displaced.len() as u64)?;
+        self.stock.make_room(births)?;
+        let (number, floor) = (plan.number, plan.floor);
+        make_commit(
+            &mut self.versions,
+            &mut self.notes,
+            &mut self.stock,
+            changes,
+            plan,
+            session,
+            kept,
+        );
+        self.stock.park_left();
+        self.floor = floor;
+        set_field(&mut self.sessions, session, false, has_ended);
+        self.locks.release_all(session);
+        Ok(Answer::Committed(number))
     }
 }

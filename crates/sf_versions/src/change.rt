@@ -79,9 +79,10 @@ impl ChangeList {
         Ok(())
     }
 
-    /// The number of changes.
+    /// The number of changes, whose names rise in byte order.
     pub fn len(&self) -> usize
-        ensures { result ≡ length self.now }
+        ensures len { result ≡ length self.now }
+        ensures rising { IsStrictlySortedBy name_cmp (keys_of self.now) }
     {
         self.changes.len()
     }

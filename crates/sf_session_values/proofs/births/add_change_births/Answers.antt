@@ -8,5 +8,5 @@ loop-k-preserved c = births_added (λ row. births_of_value row.1) c.args.changes
 
 pub returns : goal.returns
 returns c =
-    all_births_added (λ row. births_of_value row.1) c.args.changes.now c.loop-k.k _ _ c.loop-k.invariant (omega (arith, c.len-k-end.ensures, c.loop-k-test.false))
+    all_births_added (λ row. births_of_value row.1) c.args.changes.now c.loop-k.k _ _ c.loop-k.invariant (omega (arith, c.len-k-end.ensures.len, c.loop-k-test.false))
     ∙ ap (λ bs. c.args.into.now ++ bs) (sym (row_by_row c.args.changes.now))
