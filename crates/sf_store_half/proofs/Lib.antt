@@ -29,3 +29,4 @@ pub mod VersionHoldLemmas
 mod DueLemmas
 pub mod OnceLemmas
 pub mod FloorTrialLemmas
+pub mod DecisionLemmas
