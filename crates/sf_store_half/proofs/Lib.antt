@@ -30,3 +30,4 @@ mod DueLemmas
 pub mod OnceLemmas
 pub mod FloorTrialLemmas
 pub mod DecisionLemmas
+pub mod GrantLemmas
