@@ -1,7 +1,8 @@
 -- A promise that is granted: what the fields keep then.
-use Rattle.std.proofs.Common.{◌≡◌, ℕ, ◌+◌, ◌-◌, ◌≤◌, true, cond, List, [], length, drop, map, Some, refl, sym, ap, subst, ◌∙◌, arith}
+use Rattle.std.proofs.Common.{◌≡◌, ℕ, zero, suc, ◌∷◌, ◌+◌, ◌-◌, ◌≤◌, true, cond, List, [], length, drop, map, Some, refl, sym, ap, subst, ◌∙◌, arith}
 use Rattle.std.specs.Prelude.{◌==◌, sum_by, slice_get, slice_set, unwrap_or}
 use Rattle.std.specs.List.{list_any}
+use Rattle.std.proofs.lemmas.List.Sums.{sum_by-cons}
 use Rattle.sf_types.specs.declared.call.Call.{Call}
 use Rattle.sf_types.specs.declared.holder.Holder.{Holder}
 use Rattle.sf_types.specs.declared.holder.Holder.TheVariants as holder
@@ -118,19 +119,29 @@ keeps_granted f h s births call grant versions notes sessions stock keeps has ca
     (same_sessions ∙ ap (λ (x : SessionField). slice_set f.sessions (s - 1) (record x { promise = Some (record { call = call; blocks = grant.wanted }) })) (field_is f h s keeps))
     (same_stock ∙ ap (λ ps. with_left_parked (stock_promised f.stock s births grant.found ps)) can.due)
 
+-- a session's promised blocks are among all
+pub own_part : (xs : List SessionField) (i : ℕ) → promised_blocks (unwrap_or (slice_get xs i) (session_field new_kept)) ≤ sum_by promised_blocks xs
+own_part [] i = omega arith
+own_part (x ∷ xs) zero = omega (arith, sum_by-cons promised_blocks x xs)
+own_part (x ∷ xs) (suc i) = omega (arith, sum_by-cons promised_blocks x xs, own_part xs i)
+
 pub still_kept : (f : Fields) (promised s : ℕ) (births : List ℕ) (call : Call) (grant : Grant) (versions : VersionTable) (notes : List Note) (sessions : List SessionField) (stock : StockView)
     → AreKept f promised → HasField f s → CanGrant f s births grant → IsSound f.stock → versions ≡ versions_without f.versions grant.due → notes ≡ drop (length grant.due) f.notes
     → sessions ≡ sessions_granted f.sessions s call grant.wanted → stock ≡ with_left_parked (stock_promised f.stock s births grant.found grant.due)
     → AreKept (record f { versions = versions; notes = notes; floor = grant.floor; sessions = sessions; stock = stock }) (promised - promised_blocks (field_at f s) + grant.wanted)
 still_kept f promised s births call grant versions notes sessions stock kept has can sound same_versions same_notes same_sessions same_stock =
     let field = field_at f s in
-    let stays : (set_sessions : List SessionField) → sessions ≡ set_sessions → sum_by promised_blocks sessions ≡ sum_by promised_blocks set_sessions = λ xs same. ap (sum_by promised_blocks) same in
     let set = promised_set f.sessions (s - 1) (session_field new_kept) (record field { promise = Some (record { call = call; blocks = grant.wanted }) }) (omega (arith, has.low, has.high)) in
+    let after : sum_by promised_blocks sessions + promised_blocks field ≡ sum_by promised_blocks f.sessions + grant.wanted = ap (λ xs. sum_by promised_blocks xs + promised_blocks field) same_sessions ∙ set in
+    let counted_before = kept.count in
+    let fits = can.fits in
+    let own : promised_blocks field ≤ sum_by promised_blocks f.sessions = own_part f.sessions (s - 1) in
+    let counted : promised - promised_blocks field + grant.wanted ≡ sum_by promised_blocks sessions = omega (arith, after, counted_before, own) in
     record {
       in_range = kept.in_range;
       reached = omega (arith, can.high, ap (λ (t : VersionTable). t.now) same_versions, same_now f.versions grant.due);
-      count = omega (arith, kept.count, set, ap (sum_by promised_blocks) same_sessions);
-      few = omega (arith, kept.count, can.fits);
+      count = counted;
+      few = omega (arith, counted_before, counted, fits, own);
       half = half_granted kept.half s births call grant;
       keeps = keeps_granted f kept.half s births call grant versions notes sessions stock kept.keeps has can sound same_versions same_notes same_sessions same_stock;
     }

@@ -14,7 +14,7 @@ use crate::stock_steps::keep_promise;
 use crate::store_half::StoreHalf;
 use sf_retention::Retention;
 use sf_stock::Stock;
-use sf_types::{Births, Call, Mem, OutOfMemory};
+use sf_types::{Births, Call, Mem, OutOfMemory, TryCopy};
 use sf_versions::Versions;
 
 // The room that two lists of births take.
@@ -60,19 +60,20 @@ impl StoreHalf {
         &mut self,
         session: u16,
         births: Births,
-        call: Call,
+        call: &Call,
         grant: Grant,
     ) -> Mem<()>
         requires session { HasField self.old session }
         requires births { AreStocked self.old births }
         requires grant { CanGrant self.old session births grant }
-        ensures kept { OnOk result ((h : Half) → Keeps self.old h → Keeps self.new (half_granted h session births call grant)) }
+        ensures kept { OnOk result ((h : Half) → Keeps self.old h → Keeps self.new (half_granted h session births call.now grant)) }
         ensures repacked { OnOk result (IsRepacked self.old.stock self.new.stock []) }
         ensures err { OnErr result (self.new ≡ self.old) }
     {
         self.stock.make_room(room_for(&births, &grant.found)?)?;
         let floor = grant.floor;
         let blocks = grant.wanted;
+        let call = call.copy()?;
         let before = set_promise(&mut self.sessions, session, Promised { call, blocks });
         self.promised = self.promised - before + blocks;
         self.floor = floor;
