@@ -31,3 +31,5 @@ pub mod OnceLemmas
 pub mod FloorTrialLemmas
 pub mod DecisionLemmas
 pub mod GrantLemmas
+pub mod FoundBirthLemmas
+pub mod HalfPromiseLemmas

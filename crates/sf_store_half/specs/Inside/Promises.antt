@@ -3,8 +3,8 @@ use Rattle.std.specs.Prelude.{◌≡◌, ℕ, ◌+◌, ◌-◌, ◌≤◌, ◌<�
 use Rattle.sf_types.specs.declared.call.Call.{Call}
 use Rattle.sf_types.specs.declared.holder.Holder.{Holder}
 use Rattle.sf_types.specs.declared.holder.Holder.TheVariants as holder
-use Rattle.sf_types.specs.Halves.Asks.{Half, kept_at, with_kept}
-use Rattle.sf_types.specs.Halves.Flushes.{half_at}
+use Rattle.sf_types.specs.Halves.Asks.{Half, kept_at, with_kept, with_kept_births}
+use Rattle.sf_types.specs.Halves.Flushes.{Granted, NoSpace, Verdict, half_at}
 use Rattle.sf_retention.specs.Notes.{due_pairs}
 use Rattle.sf_stock.specs.Stocks.{block_count, is_stocked, with_holder}
 use Rattle.sf_store_half.specs.declared.cut_notes.CutNote.{CutNote}
@@ -108,3 +108,17 @@ pub record CanGrant (f : Fields) (s : ℕ) (births : List ℕ) (grant : Grant) :
   pub due : grant.due ≡ due_pairs f.notes grant.floor
   pub found : All (λ birth. is_stocked (with_holder f.stock (holder.Session s) births).stocked birth ≡ true) grant.found
   pub fits : grant.wanted + sum_by promised_blocks f.sessions ≤ f.options.capacity
+
+-- The same of what was decided: a refusal asks nothing.
+abbrev pub CanCarryOut : Fields → ℕ → List ℕ → Decision → Type 0
+CanCarryOut f s births (decision.Granted grant) = CanGrant f s births grant
+CanCarryOut f s births (decision.NoSpace wanted free) = Unit {0}
+
+-- The half once it is carried out, and the verdict.
+abbrev pub half_decided : Half → ℕ → List ℕ → Call → Decision → Half
+half_decided h s births call (decision.Granted grant) = half_granted h s births call grant
+half_decided h s births call (decision.NoSpace wanted free) = with_kept_births h s births
+
+abbrev pub verdict_of : Decision → Verdict
+verdict_of (decision.Granted grant) = Granted grant.wanted
+verdict_of (decision.NoSpace wanted free) = NoSpace wanted free
