@@ -1,15 +1,14 @@
 -- The births that are found for a promise.
-use Rattle.std.proofs.Common.{◌≡◌, ℕ, zero, suc, ◌+◌, ◌≤◌, Bool, true, false, cond, List, [], ◌∷◌, length, map, Option, Some, None, refl, sym, ap, subst, ◌∙◌, inl, inr}
-use Rattle.std.specs.Prelude.{◌||◌, ◌==◌, ◌&&◌, not, All, IfSome, filter, filter_map, find, bytes_eq}
+use Rattle.std.proofs.Common.{◌≡◌, ℕ, ◌+◌, ◌≤◌, Bool, true, false, cond, List, [], ◌∷◌, length, map, Option, Some, None, refl, sym, ap, ◌∙◌}
+use Rattle.std.specs.Prelude.{◌||◌, ◌==◌, ◌&&◌, not, All, IfSome, filter, filter_map, find}
 use Rattle.std.specs.List.{AllByRecursion as Each, cons_option, list_any}
-use Rattle.std.specs.Option.{option_map, option_map_or}
+use Rattle.std.specs.Option.{option_map}
 use Rattle.std.proofs.lemmas.List.Elements.{All-from_recursion, recursion_from_All}
 use Rattle.sf_types.proofs.BoolLemmas.{or-true}
-use Rattle.sf_types.proofs.NumberLemmas.{own_number, same_number}
+use Rattle.sf_types.proofs.NumberLemmas.{own_number}
 use Rattle.sf_types.specs.declared.holder.Holder.{Holder}
 use Rattle.sf_types.specs.declared.holder.Holder.TheVariants as holder
 use Rattle.sf_types.specs.Inside.Births.{rising_births}
-use Rattle.sf_types.specs.Table.Parts.{Content}
 use Rattle.sf_types.specs.Space.Cuts.{Cut}
 use Rattle.sf_types.specs.Space.Promises.{found_birth, found_births, is_shared_as}
 use Rattle.sf_types.specs.Space.Use.{content_of}
@@ -18,16 +17,14 @@ use Rattle.sf_types.specs.Halves.Flushes.{half_at, half_reach}
 use Rattle.sf_laws.proofs.EachLemmas.{each-filter_map, each_weaker}
 use Rattle.sf_laws.proofs.ReachLemmas.{each-rising}
 use Rattle.sf_lifetimes.specs.Ledgers.{Holdings, has_birth, held_by, is_live, with_births, without_holders}
-use Rattle.sf_lifetimes.proofs.LedgerLemmas.{is_at}
 use Rattle.sf_dedup.specs.Contents.{Contents}
 use Rattle.sf_retention.specs.declared.retention.Pair.{Pair}
 use Rattle.sf_retention.specs.Notes.{due_pairs}
-use Rattle.sf_stock.specs.Stocks.{Stocked, StockView, IsSound, births_of, has_left, is_shared_with, is_stocked, shared_birth, with_holder}
-use Rattle.sf_store_half.specs.declared.cut_notes.CutNote.{CutNote}
+use Rattle.sf_stock.specs.Stocks.{Stocked, IsSound, has_left, is_shared_with, is_stocked, shared_birth, with_holder}
 use Rattle.sf_store_half.specs.Fields.{Fields, Keeps, is_session}
-use Rattle.sf_store_half.specs.Inside.CutNotes.{note_of, notes_from, stocked_birth, with_first}
+use Rattle.sf_store_half.specs.Inside.CutNotes.{notes_from, stocked_birth, with_first}
 use Rattle.sf_store_half.specs.Inside.Promises.{holders_at, reached_at}
-use Rattle.sf_store_half.specs.Inside.Trials.{births_found, found_among, is_reached, version_of}
+use Rattle.sf_store_half.specs.Inside.Trials.{births_found, found_among, version_of}
 use Rattle.sf_store_half.proofs.HeldLemmas.{held_after, is_holder}
 use Rattle.sf_store_half.proofs.LiveLemmas.{holder_live, none_holds}
 use Rattle.sf_store_half.proofs.StockLemmas.{found_by_births}

@@ -1,5 +1,5 @@
 -- A promise that is granted: what the fields keep then.
-use Rattle.std.proofs.Common.{◌≡◌, ℕ, zero, suc, ◌∷◌, ◌+◌, ◌-◌, ◌≤◌, true, cond, List, [], length, drop, map, Some, refl, sym, ap, subst, ◌∙◌, arith}
+use Rattle.std.proofs.Common.{◌≡◌, ℕ, zero, suc, ◌∷◌, ◌+◌, ◌-◌, ◌≤◌, true, cond, List, [], length, drop, Some, refl, sym, ap, subst, ◌∙◌, arith}
 use Rattle.std.specs.Prelude.{◌==◌, sum_by, slice_get, slice_set, unwrap_or}
 use Rattle.std.specs.List.{list_any}
 use Rattle.std.proofs.lemmas.List.Sums.{sum_by-cons}
@@ -16,12 +16,11 @@ use Rattle.sf_retention.specs.Notes.{due_pairs}
 use Rattle.sf_stock.specs.Stocks.{StockView, IsSound, with_holder, with_left_parked}
 use Rattle.sf_versions.specs.VersionTables.{VersionTable, versions_of}
 use Rattle.sf_store_half.specs.declared.decisions.Grant.{Grant}
-use Rattle.sf_store_half.specs.declared.session_fields.Promised.{Promised}
 use Rattle.sf_store_half.specs.declared.session_fields.SessionField.{SessionField}
 use Rattle.sf_store_half.specs.Fields.{Fields, Keeps, held_in, is_session, session_field}
 use Rattle.sf_store_half.specs.HalfMoves.{HasField, IsRepacked, field_at}
 use Rattle.sf_store_half.specs.Inside.Fields.{AreKept, promised_blocks}
-use Rattle.sf_store_half.specs.Inside.Floors.{holdings_without, stock_promised, stock_without, versions_without}
+use Rattle.sf_store_half.specs.Inside.Floors.{holdings_without, stock_promised, versions_without}
 use Rattle.sf_store_half.specs.Inside.Promises.{CanGrant, half_granted}
 use Rattle.sf_store_half.specs.Inside.Trials.{version_of}
 use Rattle.sf_store_half.proofs.BetweenLemmas.{IsBetween, all_since, between_held, between_itself, live_between, repacked_between}

@@ -1,6 +1,6 @@
 -- What was decided on a promise by the fields is what the half decides.
 use Rattle.std.proofs.Common.{◌≡◌, ℕ, zero, suc, ◌+◌, ◌-◌, ◌≤◌, ◌<◌, Bool, true, false, cond, List, [], ◌∷◌, length, Option, Some, None, ◌⊎◌, inl, inr, refl, sym, ap, subst, ◌∙◌, arith}
-use Rattle.std.specs.Prelude.{All, find, nat_le, slice_set, unwrap_or}
+use Rattle.std.specs.Prelude.{All, find, nat_le, unwrap_or}
 use Rattle.std.specs.List.{last_or, range_with_len}
 use Rattle.std.proofs.lemmas.Bool.{cases_lt}
 use Rattle.sf_types.specs.declared.call.Call.{Call}

@@ -56,7 +56,7 @@ pub fn set_field(fields: &mut Vec<SessionField>, session: u16, is_open: bool, ha
 pub fn set_promise(fields: &mut Vec<SessionField>, session: u16, promised: Promised) -> u64
     requires low { 1 ≤ session }
     requires high { session ≤ length fields.old.items }
-    ensures blocks { result ≡ promised_blocks (unwrap_or (slice_get fields.old.items (session - 1)) (session_field new_kept)) }
+    ensures before { result ≡ promised_blocks (unwrap_or (slice_get fields.old.items (session - 1)) (session_field new_kept)) }
     ensures fields { fields.new.items ≡ slice_set fields.old.items (session - 1) (record (unwrap_or (slice_get fields.old.items (session - 1)) (session_field new_kept)) { promise = Some promised }) }
 {
     let field = &mut fields[usize::from(session) - 1];

@@ -1,13 +1,11 @@
-use Rattle.std.proofs.Common.{◌≡◌, ◌+◌, ◌-◌, ◌≤◌, ℕ, [], List, length, drop, ap, sym, subst, ◌∙◌, refl, arith}
+use Rattle.std.proofs.Common.{◌+◌, ◌-◌, [], List, length, ap, sym, subst, ◌∙◌, arith}
 use Rattle.sf_types.specs.declared.call.Call.{Call}
-use Rattle.sf_retention.specs.Notes.{due_pairs}
 use Rattle.sf_stock.specs.Stocks.{StockView, IsSound, with_left_parked}
-use Rattle.sf_store_half.specs.declared.session_fields.SessionField.{SessionField}
 use Rattle.sf_store_half.specs.Fields.{Fields, Keeps}
 use Rattle.sf_store_half.specs.HalfMoves.{HasField, IsRepacked}
 use Rattle.sf_store_half.specs.Inside.Fields.{AreKept}
 use Rattle.sf_store_half.specs.Inside.Floors.{AreDisplaced, stock_promised}
-use Rattle.sf_store_half.specs.Inside.Promises.{CanGrant, half_granted}
+use Rattle.sf_store_half.specs.Inside.Promises.{CanGrant}
 use Rattle.sf_store_half.specs.contracts.store_half.StoreHalf.{the_view}
 use Rattle.sf_store_half.proofs.BetweenLemmas.{between_itself}
 use Rattle.sf_store_half.proofs.DueLemmas.{few_due}
@@ -18,7 +16,7 @@ use Rattle.sf_store_half.proofs.store_half.StoreHalf.grant.Goals as goal
 pub overflow_sub-self : goal.overflow_sub-self
 overflow_sub-self c =
     let own = own_part c.self.inside.sessions.items (c.args.session - 1) in
-    omega (arith, c.set_promise-before.ensures.blocks, own, c.self.invariant.count)
+    omega (arith, c.set_promise-before.ensures.before, own, c.self.invariant.count)
 
 pub keep_grant-requires-clause-due : goal.keep_grant-requires-clause-due
 keep_grant-requires-clause-due c =
@@ -50,7 +48,7 @@ invariant_of-self-2 c =
       floor = grant.floor;
       sessions = c.set_promise-before.new.fields.items;
       stock = c.keep_grant.new.stock.held;
-    }) (c.self.inside.promised - n + grant.wanted)) (sym c.set_promise-before.ensures.blocks)
+    }) (c.self.inside.promised - n + grant.wanted)) (sym c.set_promise-before.ensures.before)
     (still_kept f c.self.inside.promised s c.args.births c.args.call.now grant c.keep_grant.new.versions.held c.keep_grant.new.notes.held c.set_promise-before.new.fields.items c.keep_grant.new.stock.held
     c.self.invariant has can (subst IsSound same c.keep_grant.ensures.sound) c.keep_grant.ensures.versions c.keep_grant.ensures.notes
     (c.set_promise-before.ensures.fields ∙ ap (λ (call : Call). sessions_granted f.sessions s call grant.wanted) c.in_ok-call.ensures)

@@ -1,4 +1,4 @@
-use Rattle.std.proofs.Common.{◌≡◌, ◌≤◌, [], List, ap, sym, subst, ◌∙◌}
+use Rattle.std.proofs.Common.{◌≤◌, [], List, ap, sym, subst, ◌∙◌}
 use Rattle.sf_types.specs.Halves.Asks.{Half}
 use Rattle.sf_stock.specs.Stocks.{IsSound}
 use Rattle.sf_store_half.specs.declared.cut_notes.CutNote.{CutNote}
@@ -7,7 +7,6 @@ use Rattle.sf_store_half.specs.HalfMoves.{cuts_in}
 use Rattle.sf_store_half.specs.Inside.CutNotes.{notes_from}
 use Rattle.sf_store_half.specs.Inside.Fields.{AreKept}
 use Rattle.sf_store_half.specs.Inside.Promises.{IsDecided}
-use Rattle.sf_store_half.specs.contracts.store_half.StoreHalf.{the_view}
 use Rattle.sf_store_half.proofs.HalfPromiseLemmas.{can_carry_out, decided_same}
 use Rattle.sf_store_half.proofs.SettledLemmas.{has_session}
 use Rattle.sf_store_half.proofs.store_half.StoreHalf.reserve.Goals as goal
