@@ -13,7 +13,7 @@ use Rattle.sf_store_half.specs.Fields.{Fields, Keeps, is_session}
 use Rattle.sf_store_half.specs.Inside.Answered.{IsAnswered}
 use Rattle.sf_store_half.proofs.HeldLemmas.{kept_with}
 
-set_twice : (ks : List Kept) (i : ℕ) (a b : Kept) → slice_set (slice_set ks i a) i b ≡ slice_set ks i b
+pub set_twice : (ks : List Kept) (i : ℕ) (a b : Kept) → slice_set (slice_set ks i a) i b ≡ slice_set ks i b
 set_twice [] i a b = refl
 set_twice (k ∷ ks) zero a b = refl
 set_twice (k ∷ ks) (suc i) a b = ap (λ (xs : List Kept). k ∷ xs) (set_twice ks i a b)

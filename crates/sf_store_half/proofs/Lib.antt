@@ -6,13 +6,17 @@ pub mod CommitKeepsLemmas
 pub mod CommitLemmas
 pub mod CommitNoteLemmas
 pub mod CutNoteLemmas
+pub mod DecisionLemmas
 mod DueLemmas
 pub mod FieldLemmas
 pub mod FloorLemmas
 pub mod FloorTrialLemmas
 pub mod FlushLemmas
+pub mod FoundBirthLemmas
 pub mod FreeLemmas
 pub mod GivenUpLemmas
+pub mod GrantLemmas
+pub mod HalfPromiseLemmas
 pub mod HasBirthLemmas
 pub mod HeldLemmas
 pub mod HeldReachLemmas

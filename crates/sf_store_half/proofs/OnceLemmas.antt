@@ -9,7 +9,6 @@ use Rattle.std.specs.Cmp.{nat_cmp_is, nat_cmp_total}
 use Rattle.std.specs.FinMap.Entries.{below_all, is_sorted}
 use Rattle.sf_types.proofs.BoolLemmas.{both, first, second}
 use Rattle.sf_types.proofs.NameMapLemmas.{same_name}
-use Rattle.sf_types.specs.declared.holder.Holder.{Holder}
 use Rattle.sf_types.specs.declared.holder.Holder.TheVariants as holder
 use Rattle.sf_types.specs.Inside.NameMaps.{get, is_same_name}
 use Rattle.sf_types.specs.Values.Marks.{Value}
@@ -21,12 +20,11 @@ use Rattle.sf_laws.proofs.EachLemmas.{each-append, each-filter, each_weaker}
 use Rattle.sf_laws.proofs.LockLemmas.{own_name}
 use Rattle.sf_room_map.specs.Entries.{value_for, without_key}
 use Rattle.sf_room_map.proofs.EntryLemmas.{sorted_without, value_for-without}
-use Rattle.sf_retention.specs.declared.retention.Note.{Note}
 use Rattle.sf_retention.specs.declared.retention.Pair.{Pair}
 use Rattle.sf_retention.specs.Notes.{due_pairs}
 use Rattle.sf_versions.specs.RowChanges.{RowChanges, changes_of}
 use Rattle.sf_versions.specs.VersionTables.{VersionTable, versions_of, without_version}
-use Rattle.sf_store_half.specs.Fields.{Fields, Keeps, displaced_by, notes_of}
+use Rattle.sf_store_half.specs.Fields.{Fields, Keeps, displaced_by}
 use Rattle.sf_store_half.specs.Inside.Floors.{AreDisplaced}
 use Rattle.sf_store_half.specs.Inside.Promises.{holders_at}
 use Rattle.sf_store_half.specs.Inside.Trials.{AreHoldersOnce, version_of}

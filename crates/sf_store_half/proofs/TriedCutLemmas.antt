@@ -42,25 +42,39 @@ others_apart bytes x (y ∷ ys) is apart =
     let same : x.content.bytes ≡ bytes = same_text x.content.bytes bytes (sym equal) in
     (ap (λ bs. is_shared_with bs y) (sym same) ∙ ap (λ t. t && is_shared_with x.content.bytes y) (sym shared) ∙ apart.0, others_apart bytes x ys is apart.1)
 
--- a shared content is found among those that pass a test where the one birth that has it passes
-pub found_where_passing : (test : ℕ → Bool) (bytes : List ℕ) (xs : List Stocked) → AreSharedOnce xs → is_some (shared_birth (filter (λ y. test y.birth) xs) bytes) ≡ option_map_or test (shared_birth xs bytes) false
-found_where_passing test bytes [] once = refl
-found_where_passing test bytes (x ∷ xs) once =
-    let rest = found_where_passing test bytes xs once.1 in
-    elim (is_shared_with bytes x) as (λ u. is_shared_with bytes x ≡ u → is_some (shared_birth (filter (λ y. test y.birth) (x ∷ xs)) bytes) ≡ option_map_or test (option_map {U = ℕ} (λ (y : Stocked). y.birth) (cond u (Some x) (find (is_shared_with bytes) xs))) false) [
+-- a birth, where there is one and it passes a test
+abbrev pub kept_if : (ℕ → Bool) → Option ℕ → Option ℕ
+kept_if test o = cond {A = Option ℕ} (option_map_or test o false) o None
+
+-- a shared content is found among those that pass a test under the one birth that has it, where that one passes
+pub found_if_passing : (test : ℕ → Bool) (bytes : List ℕ) (xs : List Stocked) → AreSharedOnce xs → shared_birth (filter (λ y. test y.birth) xs) bytes ≡ kept_if test (shared_birth xs bytes)
+found_if_passing test bytes [] once = refl
+found_if_passing test bytes (x ∷ xs) once =
+    let rest = found_if_passing test bytes xs once.1 in
+    elim (is_shared_with bytes x) as (λ u. is_shared_with bytes x ≡ u → shared_birth (filter (λ y. test y.birth) (x ∷ xs)) bytes ≡ kept_if test (option_map {U = ℕ} (λ (y : Stocked). y.birth) (cond u (Some x) (find (is_shared_with bytes) xs)))) [
       | true ↦ λ is. here is (test x.birth) refl
       | false ↦ λ apart. beside apart (test x.birth) ∙ rest
     ] refl
   where
-    here : is_shared_with bytes x ≡ true → (t : Bool) → test x.birth ≡ t → is_some (shared_birth (cond t (x ∷ filter (λ y. test y.birth) xs) (filter (λ y. test y.birth) xs)) bytes) ≡ test x.birth
-    here is true passes = ap (λ u. is_some (option_map {U = ℕ} (λ (y : Stocked). y.birth) (cond u (Some x) (find (is_shared_with bytes) (filter (λ y. test y.birth) xs))))) is ∙ sym passes
-    here is false fails = ap is_some (none_shared test bytes xs (others_apart bytes x xs is once.0)) ∙ sym fails
+    here : is_shared_with bytes x ≡ true → (t : Bool) → test x.birth ≡ t → shared_birth (cond t (x ∷ filter (λ y. test y.birth) xs) (filter (λ y. test y.birth) xs)) bytes ≡ kept_if test (Some x.birth)
+    here is true passes =
+        ap (λ u. option_map {U = ℕ} (λ (y : Stocked). y.birth) (cond u (Some x) (find (is_shared_with bytes) (filter (λ y. test y.birth) xs)))) is
+        ∙ sym (ap (λ t. cond {A = Option ℕ} t (Some x.birth) None) passes)
+    here is false fails = none_shared test bytes xs (others_apart bytes x xs is once.0) ∙ sym (ap (λ t. cond {A = Option ℕ} t (Some x.birth) None) fails)
 
-    beside : is_shared_with bytes x ≡ false → (t : Bool) → is_some (shared_birth (cond t (x ∷ filter (λ y. test y.birth) xs) (filter (λ y. test y.birth) xs)) bytes) ≡ is_some (shared_birth (filter (λ y. test y.birth) xs) bytes)
-    beside apart true = ap (λ u. is_some (option_map {U = ℕ} (λ (y : Stocked). y.birth) (cond u (Some x) (find (is_shared_with bytes) (filter (λ y. test y.birth) xs))))) apart
+    beside : is_shared_with bytes x ≡ false → (t : Bool) → shared_birth (cond t (x ∷ filter (λ y. test y.birth) xs) (filter (λ y. test y.birth) xs)) bytes ≡ shared_birth (filter (λ y. test y.birth) xs) bytes
+    beside apart true = ap (λ u. option_map {U = ℕ} (λ (y : Stocked). y.birth) (cond u (Some x) (find (is_shared_with bytes) (filter (λ y. test y.birth) xs)))) apart
     beside apart false = refl
 
-each_passing : (P : Stocked → Type 0) (test : ℕ → Bool) (xs : List Stocked) → Each P xs → Each P (filter (λ y. test y.birth) xs)
+-- so a shared content is found among those that pass a test where the one birth that has it passes
+pub found_where_passing : (test : ℕ → Bool) (bytes : List ℕ) (xs : List Stocked) → AreSharedOnce xs → is_some (shared_birth (filter (λ y. test y.birth) xs) bytes) ≡ option_map_or test (shared_birth xs bytes) false
+found_where_passing test bytes xs once = ap (λ (o : Option ℕ). is_some o) (found_if_passing test bytes xs once) ∙ by_birth (shared_birth xs bytes)
+  where
+    by_birth : (o : Option ℕ) → is_some (kept_if test o) ≡ option_map_or test o false
+    by_birth None = refl
+    by_birth (Some b) = elim (test b) as (λ t. is_some (cond {A = Option ℕ} t (Some b) None) ≡ t) [ true ↦ refl | false ↦ refl ]
+
+pub each_passing : (P : Stocked → Type 0) (test : ℕ → Bool) (xs : List Stocked) → Each P xs → Each P (filter (λ y. test y.birth) xs)
 each_passing P test [] all = tt
 each_passing P test (x ∷ xs) all =
     let rest = each_passing P test xs all.1 in

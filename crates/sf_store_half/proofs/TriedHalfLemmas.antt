@@ -20,7 +20,7 @@ use Rattle.sf_store_half.proofs.RaisedKeepsLemmas.{held_raised, same_holdings}
 use Rattle.sf_store_half.proofs.TriedLemmas.{tried_are_reached}
 
 -- who holds nothing once versions are given up, in either order
-held_where_gone : (m : Holdings) (ps : List Pair) (x : Holder) → held_by (without_holders m (map version_of ps)) x ≡ cond {A = List ℕ} (list_any (λ p. is_holder x (version_of p)) ps) [] (held_by m x)
+pub held_where_gone : (m : Holdings) (ps : List Pair) (x : Holder) → held_by (without_holders m (map version_of ps)) x ≡ cond {A = List ℕ} (list_any (λ p. is_holder x (version_of p)) ps) [] (held_by m x)
 held_where_gone m [] x = refl
 held_where_gone m (p ∷ ps) x =
     held_after (without_holders m (map version_of ps)) (version_of p) [] x
@@ -29,7 +29,7 @@ held_where_gone m (p ∷ ps) x =
       | false ↦ held_where_gone m ps x
     ]
 
-held_where_let_go : (m : Holdings) (ps : List Pair) (x : Holder) → held_by (holdings_without m ps) x ≡ cond {A = List ℕ} (list_any (λ p. is_holder x (version_of p)) ps) [] (held_by m x)
+pub held_where_let_go : (m : Holdings) (ps : List Pair) (x : Holder) → held_by (holdings_without m ps) x ≡ cond {A = List ℕ} (list_any (λ p. is_holder x (version_of p)) ps) [] (held_by m x)
 held_where_let_go m [] x = refl
 held_where_let_go m (p ∷ ps) x =
     held_where_let_go (with_births m (version_of p) []) ps x

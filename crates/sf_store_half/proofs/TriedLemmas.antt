@@ -24,7 +24,7 @@ own_holder : (m : Holdings) (y : Holder) (births : List ℕ) → is_holder y y �
 own_holder m y births own = held_after m y births y ∙ ap (λ t. cond t births (held_by m y)) own
 
 -- the births that somebody holds once a holder holds these: those that others hold, and these
-live_with : (m : Holdings) (y : Holder) (births : List ℕ) (b : ℕ) → is_holder y y ≡ true → is_live (with_births m y births) b ≡ (is_live (with_births m y []) b || has_birth births b)
+pub live_with : (m : Holdings) (y : Holder) (births : List ℕ) (b : ℕ) → is_holder y y ≡ true → is_live (with_births m y births) b ≡ (is_live (with_births m y []) b || has_birth births b)
 live_with m y births b own =
     elim (has_birth births b) as (λ t. has_birth births b ≡ t → is_live (with_births m y births) b ≡ (is_live (with_births m y []) b || t)) [
       | true ↦ λ has.
@@ -64,7 +64,7 @@ births_filtered g (x ∷ xs) =
       | false ↦ births_filtered g xs
     ]
 
-stocked_filtered : (g : ℕ → Bool) (xs : List Stocked) (b : ℕ) → g b ≡ true → is_stocked xs b ≡ true → is_stocked (filter (λ x. g x.birth) xs) b ≡ true
+pub stocked_filtered : (g : ℕ → Bool) (xs : List Stocked) (b : ℕ) → g b ≡ true → is_stocked xs b ≡ true → is_stocked (filter (λ x. g x.birth) xs) b ≡ true
 stocked_filtered g [] b passes there = there
 stocked_filtered g (x ∷ xs) b passes there =
     elim (g x.birth) as (λ t. g x.birth ≡ t → is_stocked (cond t (x ∷ filter (λ y. g y.birth) xs) (filter (λ y. g y.birth) xs)) b ≡ true) [
@@ -92,7 +92,7 @@ each_same : (P Q : Stocked → Type 0) (xs : List Stocked) → ((x : Stocked) �
 each_same P Q [] to all = tt
 each_same P Q (x ∷ xs) to all = (to x all.0, each_same P Q xs to all.1)
 
-own_session : (s : ℕ) → is_holder (holder.Session s) (holder.Session s) ≡ true
+pub own_session : (s : ℕ) → is_holder (holder.Session s) (holder.Session s) ≡ true
 own_session s = same_session s s ∙ own_number s
 
 -- the births of a stock that would be reached are those in reach of a half where each holder holds the same

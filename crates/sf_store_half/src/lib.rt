@@ -7,6 +7,7 @@ mod cut_notes;
 mod decisions;
 mod floor_trials;
 mod floors;
+mod grants;
 pub mod laws;
 mod openings;
 mod plain_answers;

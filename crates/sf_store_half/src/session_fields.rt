@@ -1,7 +1,8 @@
 //! What a store keeps of a session beside births.
-ghost use Rattle.std.specs.Prelude.{◌≡◌, ◌-◌, ◌≤◌, None, length, slice_get, slice_set, unwrap_or};
+ghost use Rattle.std.specs.Prelude.{◌≡◌, ◌-◌, ◌≤◌, None, Some, length, slice_get, slice_set, unwrap_or};
 ghost use Rattle.sf_types.specs.Halves.Asks.{new_kept};
 ghost use Rattle.sf_store_half.specs.Fields.{session_field};
+ghost use Rattle.sf_store_half.specs.Inside.Fields.{promised_blocks};
 
 use sf_types::Call;
 
@@ -48,4 +49,21 @@ pub fn set_field(fields: &mut Vec<SessionField>, session: u16, is_open: bool, ha
     let field = &mut fields[usize::from(session) - 1];
     field.is_open = is_open;
     field.has_ended = has_ended;
+}
+
+// From now on a promise of a session, which is one of these, stands. The answer is the number of the blocks that were promised to
+// the session before.
+pub fn set_promise(fields: &mut Vec<SessionField>, session: u16, promised: Promised) -> u64
+    requires low { 1 ≤ session }
+    requires high { session ≤ length fields.old.items }
+    ensures before { result ≡ promised_blocks (unwrap_or (slice_get fields.old.items (session - 1)) (session_field new_kept)) }
+    ensures fields { fields.new.items ≡ slice_set fields.old.items (session - 1) (record (unwrap_or (slice_get fields.old.items (session - 1)) (session_field new_kept)) { promise = Some promised }) }
+{
+    let field = &mut fields[usize::from(session) - 1];
+    let blocks = match &field.promise {
+        Some(before) => before.blocks,
+        None => 0,
+    };
+    field.promise = Some(promised);
+    blocks
 }

@@ -1,5 +1,5 @@
 -- What becomes of versions and holdings as versions are given up (our own).
-use Rattle.std.specs.Prelude.{List, [], ◌∷◌}
+use Rattle.std.specs.Prelude.{ℕ, List, [], ◌∷◌}
 use Rattle.sf_types.specs.declared.holder.Holder.TheVariants as holder
 use Rattle.sf_lifetimes.specs.Ledgers.{Holdings, with_births}
 use Rattle.sf_retention.specs.declared.retention.Pair.{Pair}
@@ -25,3 +25,8 @@ AreDisplaced t (p ∷ ps) = IsDisplaced t.rows p.name p.from × AreDisplaced (wi
 abbrev pub stock_without : StockView → List Pair → StockView
 stock_without s [] = s
 stock_without s (p ∷ ps) = stock_without (with_holder s (holder.Version p.name p.from) []) ps
+
+-- The stock where session s holds these births, its promise those that were found, and some versions nothing.
+abbrev pub stock_promised : StockView → ℕ → List ℕ → List ℕ → List Pair → StockView
+stock_promised stock s births found due =
+    stock_without (with_holder (with_holder stock (holder.Session s) births) (holder.Promise s) found) due

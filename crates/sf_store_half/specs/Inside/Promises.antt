@@ -1,9 +1,12 @@
 -- Floors at which a promise is tried, and the floor at which it is granted (our own).
-use Rattle.std.specs.Prelude.{◌≡◌, ℕ, ◌+◌, ◌-◌, ◌≤◌, ◌<◌, Bool, true, false, nat_le, List, ◌∷◌, map, length, sum_by, if◌then◌else◌}
+use Rattle.std.specs.Prelude.{◌≡◌, ℕ, ◌+◌, ◌-◌, ◌≤◌, ◌<◌, Bool, true, false, nat_le, List, ◌∷◌, map, length, sum_by, All, Some, if◌then◌else◌}
+use Rattle.sf_types.specs.declared.call.Call.{Call}
 use Rattle.sf_types.specs.declared.holder.Holder.{Holder}
 use Rattle.sf_types.specs.declared.holder.Holder.TheVariants as holder
+use Rattle.sf_types.specs.Halves.Asks.{Half, kept_at, with_kept, with_kept_births}
+use Rattle.sf_types.specs.Halves.Flushes.{Granted, NoSpace, Verdict, half_at}
 use Rattle.sf_retention.specs.Notes.{due_pairs}
-use Rattle.sf_stock.specs.Stocks.{block_count}
+use Rattle.sf_stock.specs.Stocks.{block_count, is_stocked, with_holder}
 use Rattle.sf_store_half.specs.declared.cut_notes.CutNote.{CutNote}
 use Rattle.sf_store_half.specs.declared.floor_trials.Trial.{Trial}
 use Rattle.sf_store_half.specs.declared.decisions.Decision.{Decision}
@@ -88,3 +91,34 @@ pub record IsRefused (f : Fields) (s : ℕ) (births : List ℕ) (cuts : List Cut
 abbrev pub IsDecided : Fields → ℕ → List ℕ → List CutNote → Decision → Type 0
 IsDecided f s births cuts (decision.Granted grant) = IsGranted f s births cuts grant
 IsDecided f s births cuts (decision.NoSpace wanted free) = IsRefused f s births cuts wanted free
+
+-- The half where a promise of session s, which holds these births, is granted at a floor.
+abbrev pub half_granted : Half → ℕ → List ℕ → Call → Grant → Half
+half_granted h s births call grant =
+    with_kept (half_at h grant.floor) s (record (kept_at h s) {
+      births = births;
+      promise = Some (record { call = call; blocks = grant.wanted; births = grant.found });
+    })
+
+-- What a grant asks of the fields: its floor is between the store's floor and the number of commits; the versions are those that
+-- are due there; each birth that is found has a place while session s holds these births; and its blocks are free.
+pub record CanGrant (f : Fields) (s : ℕ) (births : List ℕ) (grant : Grant) : Type 0 where
+  pub low : f.floor ≤ grant.floor
+  pub high : grant.floor ≤ f.versions.now
+  pub due : grant.due ≡ due_pairs f.notes grant.floor
+  pub found : All (λ birth. is_stocked (with_holder f.stock (holder.Session s) births).stocked birth ≡ true) grant.found
+  pub fits : grant.wanted + sum_by promised_blocks f.sessions ≤ f.options.capacity
+
+-- The same of what was decided: a refusal asks nothing.
+abbrev pub CanCarryOut : Fields → ℕ → List ℕ → Decision → Type 0
+CanCarryOut f s births (decision.Granted grant) = CanGrant f s births grant
+CanCarryOut f s births (decision.NoSpace wanted free) = Unit {0}
+
+-- The half once it is carried out, and the verdict.
+abbrev pub half_decided : Half → ℕ → List ℕ → Call → Decision → Half
+half_decided h s births call (decision.Granted grant) = half_granted h s births call grant
+half_decided h s births call (decision.NoSpace wanted free) = with_kept_births h s births
+
+abbrev pub verdict_of : Decision → Verdict
+verdict_of (decision.Granted grant) = Granted grant.wanted
+verdict_of (decision.NoSpace wanted free) = NoSpace wanted free

@@ -1,4 +1,4 @@
-use Rattle.std.proofs.Common.{◌≡◌, ◌+◌, ◌≤◌, ◌++◌, ◌∷◌, List, [], drop, length, map, refl, sym, ap, subst, ◌∙◌, arith, append_assoc}
+use Rattle.std.proofs.Common.{◌≡◌, ◌+◌, ◌++◌, ◌∷◌, List, [], drop, map, sym, ap, subst, ◌∙◌, arith, append_assoc}
 use Rattle.std.specs.Prelude.{◌≢◌}
 use Rattle.std.proofs.lemmas.List.{append-nil}
 use Rattle.std.proofs.lemmas.List.Elements.{All-from_recursion}
@@ -28,7 +28,7 @@ pub overflow_add-at : goal.overflow_add-at
 overflow_add-at c =
     let due = due_pairs c.args.notes.now.held c.args.floor in
     let less = place_below due c.loop-note.at (pair_of c.in-Some.note.now) (sym c.in-Some.ensures) in
-    omega (arith, less, few_due c.args.notes.now.held c.args.floor, c.len-count.ensures, c.len-count.auto)
+    omega (arith, less, few_due c.args.notes.now.held c.args.floor, c.len-count.ensures)
 
 pub loop-note-smaller : goal.loop-note-smaller
 loop-note-smaller c =

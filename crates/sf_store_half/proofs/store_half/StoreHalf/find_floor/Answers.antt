@@ -1,4 +1,4 @@
-use Rattle.std.proofs.Common.{◌≡◌, ◌≤◌, sym, ap, subst, ◌∙◌, arith}
+use Rattle.std.proofs.Common.{sym, subst, arith}
 use Rattle.sf_store_half.specs.Inside.Promises.{IsCandidate}
 use Rattle.sf_store_half.proofs.FloorTrialLemmas.{candidate_next}
 use Rattle.sf_store_half.proofs.store_half.StoreHalf.find_floor.Goals as goal
