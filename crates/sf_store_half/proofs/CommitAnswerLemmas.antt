@@ -1,14 +1,13 @@
 -- The answer to a commit of an open transaction.
 use Rattle.std.proofs.Common.{◌≡◌, ℕ, ◌+◌, ◌-◌, ◌≤◌, zero, suc, Bool, true, false, cond, ◌&&◌, List, [], ◌∷◌, ◌++◌, length, drop, Option, Some, None, refl, sym, ap, subst, ◌∙◌, arith}
 use Rattle.std.specs.Prelude.{All, filter, flat_map, nat_le, not, slice_index_or}
-use Rattle.std.specs.List.{AllByRecursion as Each, range_with_len}
+use Rattle.std.specs.List.{AllByRecursion as Each}
 use Rattle.std.specs.List.Sorted.{IsStrictlySortedBy}
 use Rattle.std.specs.Map.{keys_of}
 use Rattle.std.specs.Option.{option_map_or}
 use Rattle.std.specs.Ordering.{eq_by_cmp, nat_cmp}
 use Rattle.std.proofs.lemmas.List.{length-append}
 use Rattle.std.proofs.lemmas.List.Elements.{All-from_recursion, recursion_from_All}
-use Rattle.std.proofs.lemmas.List.Sums.{sum_by-cons}
 use Rattle.sf_types.specs.declared.call.Call.TheVariants as call
 use Rattle.sf_types.specs.declared.holder.Holder.{Holder}
 use Rattle.sf_types.specs.declared.holder.Holder.TheVariants as holder
@@ -26,7 +25,7 @@ use Rattle.sf_types.specs.Halves.Asks as rule
 use Rattle.sf_types.specs.Halves.Flushes.{table_of_half}
 use Rattle.sf_types.proofs.NameMapLemmas.{IsRisingMap, equal, rising_from_ordered, same_name}
 use Rattle.sf_laws.proofs.RisingLockLemmas.{rising_head}
-use Rattle.sf_laws.proofs.EachLemmas.{each_left, each_right, each_weaker, each-append, each-filter}
+use Rattle.sf_laws.proofs.EachLemmas.{each_left, each_right, each-append, each-filter}
 use Rattle.sf_lifetimes.specs.Ledgers.{Holdings, has_birth, held_by, is_live, with_births}
 use Rattle.sf_retention.specs.declared.retention.Note.{Note}
 use Rattle.sf_retention.specs.declared.retention.Pair.{Pair}
@@ -37,20 +36,19 @@ use Rattle.sf_store_half.specs.declared.commits.CommitPlan.{CommitPlan}
 use Rattle.sf_store_half.specs.declared.commits.RowBirths.{RowBirths}
 use Rattle.sf_store_half.specs.declared.session_fields.SessionField.{SessionField}
 use Rattle.sf_store_half.specs.Fields.{Fields, Keeps, held_in, is_session, notes_of}
-use Rattle.sf_store_half.specs.HalfMoves.{AreStocked, HasField, IsRepacked, field_at}
+use Rattle.sf_store_half.specs.HalfMoves.{AreStocked, IsRepacked}
 use Rattle.sf_store_half.specs.Inside.Commits.{CanHold, IsPlan, births_of_change, displaced_notes, holdings_with, row_births, stock_with}
-use Rattle.sf_store_half.specs.Inside.Fields.{AreKept}
 use Rattle.sf_store_half.specs.Inside.Floors.{AreDisplaced, holdings_without, stock_without, versions_without}
 use Rattle.sf_store_half.proofs.BetweenLemmas.{IsBetween, between_held, between_itself, repacked_between}
-use Rattle.sf_store_half.proofs.CommitKeepsLemmas.{committed_keeps, displaced_then, due_then, floor_then, held_after_commit, high, hold_then, holdings_then, notes_then, versions_then, commits_then}
+use Rattle.sf_store_half.proofs.CommitKeepsLemmas.{committed_keeps, displaced_then, due_then, floor_then, held_after_commit, high, hold_then, holdings_then, notes_then, versions_then}
 use Rattle.sf_store_half.proofs.GivenUpLemmas.{version_is}
 use Rattle.sf_store_half.proofs.HeldReachLemmas.{each_found}
 use Rattle.sf_store_half.proofs.LiveLemmas.{holder_live, none_holds}
 use Rattle.sf_store_half.proofs.HeldLemmas.{held_after, is_holder}
 use Rattle.sf_store_half.proofs.NoteLemmas.{each_made, each_note, is_noted, notes_between}
 use Rattle.sf_store_half.proofs.RaisedKeepsLemmas.{between_without, same_holdings, same_now}
-use Rattle.sf_store_half.proofs.SetLemmas.{promised_same, set_is, set_to}
-use Rattle.sf_store_half.proofs.SettledLemmas.{field_is, has_session, settled_held}
+use Rattle.sf_store_half.proofs.SetLemmas.{set_is, set_to}
+use Rattle.sf_store_half.proofs.SettledLemmas.{settled_held}
 
 -- ---- what the versions of a commit hold in a stock
 between_with : (before s : StockView) (number : ℕ) (xs : List RowBirths) → IsBetween before s → IsBetween before (stock_with s number xs)

@@ -1,5 +1,5 @@
 -- Fields that keep a half keep it after one commit more.
-use Rattle.std.proofs.Common.{◌≡◌, ℕ, ◌+◌, ◌-◌, ◌≤◌, ◌<◌, Bool, true, false, cond, List, [], ◌∷◌, ◌++◌, length, drop, map, refl, sym, ap, subst, ◌∙◌, arith}
+use Rattle.std.proofs.Common.{◌≡◌, ℕ, ◌+◌, ◌-◌, ◌≤◌, ◌<◌, true, false, cond, List, [], ◌∷◌, ◌++◌, length, drop, map, refl, sym, ap, subst, ◌∙◌, arith}
 use Rattle.std.specs.Prelude.{filter, max, slice_set, Some}
 use Rattle.std.specs.List.{AllByRecursion as Each}
 use Rattle.std.specs.List.Sorted.{IsStrictlySortedBy}
@@ -9,25 +9,24 @@ use Rattle.sf_types.specs.declared.holder.Holder.{Holder}
 use Rattle.sf_types.specs.declared.holder.Holder.TheVariants as holder
 use Rattle.sf_types.specs.declared.options.Options.{Options}
 use Rattle.sf_types.specs.Inside.NameMaps.{NameMap}
-use Rattle.sf_types.specs.Values.Marks.{Value}
 use Rattle.sf_types.specs.Values.Names.{name_cmp}
 use Rattle.sf_types.specs.Table.Parts.{Rows}
 use Rattle.sf_types.specs.Calls.TransactionEnds.{floor_after}
 use Rattle.sf_types.specs.Space.Reach.{is_kept}
 use Rattle.sf_types.specs.Space.Use.{content_of}
-use Rattle.sf_types.specs.Halves.Asks.{Half, Kept, kept_at, with_kept}
+use Rattle.sf_types.specs.Halves.Asks.{Half, Kept, with_kept}
 use Rattle.sf_types.specs.Halves.Flushes.{table_of_half}
 use Rattle.sf_laws.proofs.EachLemmas.{each-filter}
 use Rattle.sf_laws.proofs.HeldStepLemmas.{floor_rises}
-use Rattle.sf_lifetimes.specs.Ledgers.{Holdings, held_by, with_births}
+use Rattle.sf_lifetimes.specs.Ledgers.{Holdings, held_by}
 use Rattle.sf_retention.specs.declared.retention.Note.{Note}
 use Rattle.sf_retention.specs.declared.retention.Pair.{Pair}
 use Rattle.sf_retention.specs.Notes.{due_pairs, pair_of}
 use Rattle.sf_stock.specs.Stocks.{StockView, with_left_parked}
-use Rattle.sf_versions.specs.RowChanges.{RowChanges, changes_of}
+use Rattle.sf_versions.specs.RowChanges.{changes_of}
 use Rattle.sf_versions.specs.VersionTables.{AreCommits, VersionTable, after_commit, versions_of}
 use Rattle.sf_store_half.specs.declared.session_fields.SessionField.{SessionField}
-use Rattle.sf_store_half.specs.Fields.{Fields, Keeps, held_in, is_session, kept_versions, notes_of, session_field}
+use Rattle.sf_store_half.specs.Fields.{Fields, Keeps, held_in, kept_versions, notes_of, session_field}
 use Rattle.sf_store_half.specs.Inside.Commits.{displaced_notes, holdings_with, row_births}
 use Rattle.sf_store_half.specs.Inside.Floors.{AreDisplaced, holdings_without, versions_without}
 use Rattle.sf_store_half.proofs.BetweenLemmas.{IsBetween, all_since, live_between}

@@ -1,17 +1,16 @@
 -- Versions, notes and holdings after one commit more.
-use Rattle.std.proofs.Common.{◌≡◌, ℕ, zero, suc, ◌+◌, ◌-◌, ◌≤◌, ◌<◌, Bool, true, false, cond, ◌&&◌, List, [], ◌∷◌, ◌++◌, length, take, drop, map, Option, Some, None, refl, sym, ap, subst, ◌∙◌, append_assoc, arith}
-use Rattle.std.specs.Prelude.{filter, filter_map, flat_map, slice_get, slice_index_or}
-use Rattle.std.specs.List.{AllByRecursion as Each, range_with_len}
+use Rattle.std.proofs.Common.{◌≡◌, ℕ, ◌+◌, ◌-◌, ◌≤◌, ◌<◌, Bool, true, false, cond, ◌&&◌, List, [], ◌∷◌, ◌++◌, length, take, drop, Option, Some, None, refl, sym, ap, ◌∙◌, append_assoc, arith}
+use Rattle.std.specs.List.{AllByRecursion as Each}
 use Rattle.std.specs.List.Sorted.{IsStrictlySortedBy}
 use Rattle.std.specs.Map.{keys_of}
-use Rattle.std.specs.Option.{option_map, option_map_or}
+use Rattle.std.specs.Option.{option_map_or}
 use Rattle.std.specs.Cmp.{nat_cmp_is, nat_cmp_total}
 use Rattle.std.specs.FinMap.{nat_cmp-IsAntisymmetric}
 use Rattle.std.specs.declared.cmp.Ordering.TheVariants.{Less}
 use Rattle.std.specs.Ordering.{eq_by_cmp, is_eq, nat_cmp}
-use Rattle.std.proofs.lemmas.List.{append-nil, drop-append-le, length-append, length-drop, take-append-le, take_all}
+use Rattle.std.proofs.lemmas.List.{append-nil, drop-append-le, length-drop, take-append-le}
 use Rattle.sf_types.specs.declared.holder.Holder.TheVariants as holder
-use Rattle.sf_types.specs.Inside.NameMaps.{NameMap, get, has, is_same_name}
+use Rattle.sf_types.specs.Inside.NameMaps.{get, is_same_name}
 use Rattle.sf_types.specs.Values.Marks.{Value, births_in}
 use Rattle.sf_types.specs.Values.Names.{name_cmp}
 use Rattle.sf_types.specs.Table.Parts.{Rows}
@@ -27,7 +26,7 @@ use Rattle.sf_versions.proofs.TableLemmas.{row_after}
 use Rattle.sf_store_half.specs.Inside.Commits.{births_of_change, holdings_with, row_births}
 use Rattle.sf_store_half.proofs.FloorLemmas.{changes_pushed, kept_at_number, last_of}
 use Rattle.sf_store_half.proofs.GivenUpLemmas.{HoldVersions, version_is}
-use Rattle.sf_store_half.proofs.HeldLemmas.{held_after, is_holder}
+use Rattle.sf_store_half.proofs.HeldLemmas.{held_after}
 use Rattle.sf_store_half.proofs.VersionHoldLemmas.{births_of_version}
 
 -- the version that a commit makes of a row, where it names it

@@ -1,6 +1,6 @@
 -- Plans of commits: the notes of what is displaced, and how many versions are due.
 use Rattle.std.proofs.Common.{◌≡◌, ℕ, zero, suc, ◌+◌, ◌≤◌, Bool, true, false, cond, List, [], ◌∷◌, ◌++◌, length, Option, Some, None, refl, sym, ap, subst, ◌∙◌, arith}
-use Rattle.std.specs.Prelude.{All, drop, filter, filter_map, map, nat_le, slice_get}
+use Rattle.std.specs.Prelude.{All, drop, filter, nat_le, slice_get}
 use Rattle.std.specs.List.{AllByRecursion as Each, cons_option}
 use Rattle.std.specs.Option.{option_map}
 use Rattle.std.proofs.lemmas.List.{length-map}

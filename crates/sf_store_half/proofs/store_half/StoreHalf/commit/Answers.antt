@@ -1,6 +1,5 @@
-use Rattle.std.proofs.Common.{◌≡◌, ◌+◌, ◌≤◌, Bool, true, false, List, [], ◌++◌, length, drop, refl, ap, sym, subst, ◌∙◌}
+use Rattle.std.proofs.Common.{◌≡◌, ◌≤◌, true, false, List, [], ◌++◌, length, drop, refl, ap, sym, subst, ◌∙◌}
 use Rattle.std.specs.Prelude.{All, flat_map, sum_by}
-use Rattle.std.specs.List.Sorted.{IsStrictlySortedBy}
 use Rattle.sf_types.specs.declared.call.Call.TheVariants as call
 use Rattle.sf_types.specs.declared.holder.Holder.TheVariants as holder
 use Rattle.sf_types.specs.Values.Marks.{births_in}
@@ -70,7 +69,7 @@ set c h keeps =
 
 keeps_then : (c : goal.After-release_all) (h : Half) → Keeps (the_view c.self.inside) h
     → Keeps (record (the_view c.self.inside) { locks = c.release_all.new.self.held; versions = c.make_commit.new.versions.held; notes = c.make_commit.new.notes.held; floor = c.in_ok-plan.plan.floor; sessions = c.set_field.new.fields.items; stock = c.park_left.new.self.held })
-        (half_answer h c.args.session call.Commit (rule.Commits c.args.changes) c.args.kept).0
+    (half_answer h c.args.session call.Commit (rule.Commits c.args.changes) c.args.kept).0
 keeps_then c h keeps =
     let f = the_view c.self.inside in
     let s = c.args.session in
