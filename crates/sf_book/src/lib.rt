@@ -2,6 +2,7 @@
 #![tactic(auto)]
 
 mod book;
+mod borrowed;
 mod entries;
 mod events;
 mod promises;

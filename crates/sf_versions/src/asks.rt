@@ -1,9 +1,10 @@
 //! What a session asks of the store, and what it is answered.
+ghost use Rattle.std.specs.Prelude.{◌≡◌, IfOk};
 
 use crate::change::ChangeList;
 use sf_chunk_map::Map;
 use sf_dedup::PrintList;
-use sf_types::{Births, BlobList, Call, CallList, Choice, Fault, List, Name};
+use sf_types::{Births, BlobList, Call, CallList, Choice, Fault, List, Mem, Name, TryCopy};
 
 /// The local calls since the session's last turn, and the births that it then holds.
 #[derive(Drop)]
@@ -71,4 +72,60 @@ pub struct Flush {
 pub enum Verdict {
     Granted(u64),
     NoSpace { wanted: u64, free: u64 },
+}
+
+impl TryCopy for Batch {
+    fn copy(&self) -> Mem<Batch> {
+        Ok(Batch {
+            calls: self.calls.copy()?,
+            births: self.births.copy()?,
+        })
+    }
+}
+
+impl TryCopy for Part {
+    fn copy(&self) -> Mem<Part> {
+        Ok(match self {
+            Part::Known(fault) => Part::Known(*fault),
+            Part::Working => Part::Working,
+            Part::Current => Part::Current,
+            Part::Unlock(rows) => Part::Unlock(rows.copy()?),
+            Part::Commit(changes) => Part::Commit(changes.copy()?),
+            Part::Rollback => Part::Rollback,
+            Part::End => Part::End,
+            Part::Settle(map) => Part::Settle(map.copy()?),
+        })
+    }
+}
+
+impl TryCopy for Ask {
+    fn copy(&self) -> Mem<Ask> {
+        Ok(Ask {
+            call: self.call.copy()?,
+            part: self.part.copy()?,
+            kept: self.kept.copy()?,
+        })
+    }
+}
+
+// A copy of choices.
+fn copy_of_choices(choices: &List<Choice>) -> Mem<List<Choice>>
+    ensures { IfOk result (λ copied. copied ≡ choices.now) }
+{
+    let mut copied = List::new(choices.allocator());
+    for choice in choices.as_slice() {
+        copied.push(*choice)?;
+    }
+    Ok(copied)
+}
+
+impl TryCopy for Flush {
+    fn copy(&self) -> Mem<Flush> {
+        Ok(Flush {
+            contents: self.contents.copy()?,
+            prints: self.prints.copy()?,
+            choices: copy_of_choices(&self.choices)?,
+            ask: self.ask.copy()?,
+        })
+    }
 }
