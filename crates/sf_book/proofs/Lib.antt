@@ -8,5 +8,6 @@ pub mod PromiseLemmas
 pub mod PublicationLemmas
 pub mod QuietLemmas
 pub mod ReadLemmas
+pub mod ReplyLemmas
 pub mod RipeLemmas
 pub mod ShiftLemmas

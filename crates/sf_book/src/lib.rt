@@ -5,6 +5,7 @@ mod book;
 mod borrowed;
 mod entries;
 mod events;
+pub mod laws;
 mod promises;
 mod publications;
 mod reads;
