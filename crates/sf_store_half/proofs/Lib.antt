@@ -14,6 +14,7 @@ pub mod KeepsLemmas
 pub mod KeptRowLemmas
 pub mod LiveLemmas
 pub mod NoteLemmas
+pub mod PlanLemmas
 pub mod RaisedKeepsLemmas
 pub mod RaisedLemmas
 pub mod RowAnswerLemmas

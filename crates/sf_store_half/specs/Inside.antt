@@ -4,3 +4,4 @@ pub mod Fields
 pub mod CutNotes
 pub mod Trials
 pub mod Floors
+pub mod Plans
