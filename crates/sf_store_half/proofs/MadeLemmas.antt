@@ -1,14 +1,16 @@
 -- A writing call that is published by a plan of its cuts.
-use Rattle.std.proofs.Common.{◌≡◌, ℕ, ◌+◌, ◌-◌, ◌≤◌, true, List, [], ◌∷◌, length, drop, take, Option, None, Some, refl, sym, ap, subst, ◌∙◌, arith}
-use Rattle.std.specs.Prelude.{◌||◌, All, slice_get, slice_set, sum_by, unwrap_or}
+use Rattle.std.proofs.Common.{◌≡◌, ℕ, ◌+◌, ◌-◌, ◌≤◌, true, Err, Result, List, [], ◌∷◌, length, drop, take, Option, None, Some, refl, sym, ap, subst, ◌∙◌, arith}
+use Rattle.std.specs.Prelude.{◌||◌, All, flat_map, slice_get, slice_set, sum_by, unwrap_or}
 use Rattle.std.specs.List.{AllByRecursion as Each}
 use Rattle.std.specs.Option.{option_map_or}
-use Rattle.std.proofs.lemmas.List.{length-map, take_all}
+use Rattle.std.proofs.lemmas.List.{append-nil, length-map, take_all}
 use Rattle.std.proofs.lemmas.List.Elements.{All-from_recursion, recursion_from_All}
 use Rattle.sf_types.specs.Values.Marks.{Value, births_in}
 use Rattle.sf_types.specs.Space.BlockRuns.{blocks_in}
-use Rattle.sf_types.specs.Space.Cuts.{Cut, contents_of_value, cuts_of_value, settle_value}
-use Rattle.sf_types.specs.Halves.Asks.{Given, Half, Kept, Settles, births_with, kept_at, new_kept}
+use Rattle.sf_types.specs.Space.Cuts.{Cut, contents_of_value, cuts, cuts_of_value, settle_value}
+use Rattle.sf_types.specs.Space.Reach.{values_in}
+use Rattle.sf_types.specs.Halves.Asks.{Given, Half, Kept, Request, Settles, births_with, kept_at, new_kept}
+use Rattle.sf_types.specs.Halves.Asks as rule
 use Rattle.sf_types.specs.Halves.Flushes.{half_births_for, half_publish, half_reach}
 use Rattle.sf_laws.proofs.CommitLemmas.{births-length}
 use Rattle.sf_laws.proofs.EachLemmas.{each_weaker}
@@ -18,7 +20,11 @@ use Rattle.sf_lifetimes.specs.Ledgers.{has_birth}
 use Rattle.sf_stock.specs.Stocks.{IsSound, Stocked, is_stocked, places_of, with_left_parked}
 use Rattle.sf_stock.proofs.SinceLemmas.{stocked-append}
 use Rattle.sf_store_half.specs.Fields.{Fields, Keeps, session_field}
-use Rattle.sf_store_half.specs.HalfMoves.{AreEnough, ArePlaceable, HasField, IsRepacked, blocks_left_over, field_at, new_places}
+use Rattle.sf_store_half.specs.HalfMoves.{AreEnough, ArePlaceable, AreStocked, BringsStocked, HasCutsOfRequest, HasField, IsRepacked, blocks_left_over, cuts_in, field_at, flushed_rows, new_places}
+use Rattle.sf_versions.specs.declared.asks.Flush.{Flush}
+use Rattle.sf_versions.specs.Asks.{request_of_part}
+use Rattle.sf_store_half.specs.Inside.Answered.{IsPublished}
+use Rattle.sf_store_half.specs.declared.store_half.Published.{Published}
 use Rattle.sf_store_half.specs.Inside.Fields.{AreKept, promised_blocks}
 use Rattle.sf_store_half.specs.Inside.Plans.{AreNewPlaces, IsPlan, planned_all, planned_births, planned_by, published_stock, stocked_from, unplanned, with_all_new}
 use Rattle.sf_store_half.specs.declared.plans.Plan.{Plan}
@@ -26,7 +32,7 @@ use Rattle.sf_store_half.specs.declared.session_fields.Promised.{Promised}
 use Rattle.sf_store_half.specs.declared.session_fields.SessionField.{SessionField}
 use Rattle.sf_store_half.proofs.GrownLemmas.{OfSize}
 use Rattle.sf_store_half.proofs.PlaceableLemmas.{all_stocked}
-use Rattle.sf_store_half.proofs.PlannedLemmas.{births_count, births_planned, births_stocked, new_where, next_planned, placeable, places_planned, rest_planned, settled_among, settled_where, stocked_planned, value_sizes, with_where}
+use Rattle.sf_store_half.proofs.PlannedLemmas.{births_count, births_planned, births_stocked, cuts_alone, new_where, next_planned, placeable, places_planned, rest_planned, settled_among, settled_where, stocked_planned, value_sizes, with_where}
 use Rattle.sf_store_half.proofs.PublishedLemmas.{keeps_published, repacked_published}
 use Rattle.sf_store_half.proofs.SettledLemmas.{field_is, has_session, promised_set}
 
@@ -125,3 +131,27 @@ module _ (f : Fields) (s : ℕ) (blocks : List ℕ) (of : List Cut) (v settled :
     half = (half_publish are.half s (Settles v) of kept).0;
     keeps = made_keeps are.half are.keeps sessions set;
   }
+
+-- what a flush of a writing call brings
+pub made_of : (f now : Fields) (s : ℕ) (flush : Flush) (blocks : List ℕ) (v settled : Value) (births : List ℕ) (plan : Plan) → f ≡ now → IsSound f.stock → HasField now s → BringsStocked now flush.ask → request_of_part flush.ask.part ≡ Settles v
+    → HasCutsOfRequest now.options flush → ArePlaceable now blocks → AreEnough now (cuts_in now.options flush) (length blocks) → planned_by f.stock plan ≡ planned_all (unplanned f.stock blocks) (cuts_in f.options flush) → IsPlan f.stock plan
+    → settled ≡ settle_value v (planned_births (unplanned f.stock blocks) (cuts_in f.options flush)) → births ≡ births_with flush.ask.kept settled → IsMade f s blocks (cuts_in f.options flush) v settled flush.ask.kept births plan
+made_of f now s flush blocks v settled births plan same sound has brings request of places enough planned plan_is settled_is births_are = record {
+  sound = sound;
+  has = subst (λ (x : Fields). HasField x s) (sym same) has;
+  cuts_are = subst (λ (x : Fields). cuts_in x.options flush ≡ cuts_of_value x.options v) (sym same) (of ∙ ap (λ (r : Request). cuts now.options (flushed_rows r)) request ∙ cuts_alone now.options v);
+  places = subst (λ (x : Fields). ArePlaceable x blocks) (sym same) places;
+  enough = subst (λ (x : Fields). AreEnough x (cuts_in x.options flush) (length blocks)) (sym same) enough;
+  kept_stocked = subst (λ (x : Fields). AreStocked x flush.ask.kept) (sym same) brings.kept;
+  named =
+      subst (λ (bs : List ℕ). AreStocked f bs) (ap (λ (r : Request). flat_map births_in (values_in (flushed_rows r))) request ∙ append-nil (births_in v))
+      (subst (λ (x : Fields). AreStocked x (flat_map births_in (values_in (flushed_rows (request_of_part flush.ask.part))))) (sym same) brings.named);
+  planned = planned;
+  plan_is = plan_is;
+  settled_is = settled_is;
+  births_are = births_are;
+}
+
+-- nothing has changed after want of memory
+pub none_published : {E : Type 0} (before after : Fields) (step : Half → Half × rule.Answer) (blocks : List ℕ) (result : Result Published E) (e : E) → result ≡ Err e → after ≡ before → IsPublished before after step blocks result
+none_published before after step blocks result e is same = subst (IsPublished before after step blocks) (sym is) (record { kept = tt; answer = tt; repacked = tt; unused = tt; err = same })
