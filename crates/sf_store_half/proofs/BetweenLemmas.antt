@@ -28,7 +28,7 @@ between_itself s none sound live = record {
 }
 
 -- what is held and doesn't leave is held then
-stays_live : (before after : Holdings) (xs : List Stocked) → Each (λ x. is_live before x.birth ≡ true) xs → Each (λ x. is_live after x.birth ≡ true) (filter (λ x. not (has_left before after x.birth)) xs)
+pub stays_live : (before after : Holdings) (xs : List Stocked) → Each (λ x. is_live before x.birth ≡ true) xs → Each (λ x. is_live after x.birth ≡ true) (filter (λ x. not (has_left before after x.birth)) xs)
 stays_live before after [] live = tt
 stays_live before after (x ∷ xs) live =
     let kept = filter (λ (y : Stocked). not (has_left before after y.birth)) xs in
@@ -47,7 +47,7 @@ between_held before s after between = record {
 }
 
 -- what holds of all that had places holds of those that still have them
-each_kept : (P : Stocked → Type 0) (p : Stocked → Bool) (xs : List Stocked) → Each P xs → Each P (filter p xs)
+pub each_kept : (P : Stocked → Type 0) (p : Stocked → Bool) (xs : List Stocked) → Each P xs → Each P (filter p xs)
 each_kept P p [] all = tt
 each_kept P p (x ∷ xs) all =
     let rest = each_kept P p xs all.1 in
@@ -62,7 +62,7 @@ pub live_between : (before now : StockView) → IsBetween before now → All (λ
 live_between before now between = All-from_recursion (λ (x : Stocked). is_live now.holdings x.birth ≡ true) now.stocked between.live
 
 -- ---- what the parking leaves
-places-filter : (p : ℕ → Bool) (xs : List Stocked) → places_of (filter (λ x. p x.birth) xs) ≡ filter (λ x. p x.birth) (places_of xs)
+pub places-filter : (p : ℕ → Bool) (xs : List Stocked) → places_of (filter (λ x. p x.birth) xs) ≡ filter (λ x. p x.birth) (places_of xs)
 places-filter p [] = refl
 places-filter p (x ∷ xs) =
     let rest = places-filter p xs in

@@ -6,6 +6,7 @@ pub mod CommitKeepsLemmas
 pub mod CommitLemmas
 pub mod CommitNoteLemmas
 pub mod CutNoteLemmas
+pub mod CutPlanLemmas
 pub mod DecisionLemmas
 mod DueLemmas
 pub mod FieldLemmas
@@ -16,6 +17,7 @@ pub mod FoundBirthLemmas
 pub mod FreeLemmas
 pub mod GivenUpLemmas
 pub mod GrantLemmas
+pub mod GrownLemmas
 pub mod HalfPromiseLemmas
 pub mod HasBirthLemmas
 pub mod HeldLemmas
@@ -23,9 +25,13 @@ pub mod HeldReachLemmas
 pub mod KeepsLemmas
 pub mod KeptRowLemmas
 pub mod LiveLemmas
+pub mod MadeLemmas
 pub mod NoteLemmas
 pub mod OnceLemmas
+pub mod PlaceableLemmas
 pub mod PlanLemmas
+pub mod PlannedLemmas
+pub mod PublishedLemmas
 pub mod RaisedKeepsLemmas
 pub mod RaisedLemmas
 pub mod ReadLemmas

@@ -4,5 +4,6 @@ pub mod Commits
 pub mod CutNotes
 pub mod Fields
 pub mod Floors
+pub mod Plans
 pub mod Promises
 pub mod Trials

@@ -23,7 +23,7 @@ pub struct CutNote {
 }
 
 // Whether a cut of a value with this choice is sharing.
-fn is_sharing(options: &Options, choice: Choice) -> bool
+pub fn is_sharing(options: &Options, choice: Choice) -> bool
     ensures { result ≡ is_sharing options.now choice }
 {
     match choice {

@@ -37,7 +37,7 @@ fn twice(value: Option<&Map>) -> Mem<Option<(Map, Map)>>
 }
 
 // Some births with those of a value.
-fn with_births(alloc: Global, births: &Births, map: &Map) -> Mem<Births>
+pub fn with_births(alloc: Global, births: &Births, map: &Map) -> Mem<Births>
     ensures { IfOk result (λ all. all ≡ births_with births.now map.now) }
 {
     let own = map.births()?;

@@ -3,13 +3,15 @@ use Rattle.std.specs.Prelude.{◌≡◌, ℕ, Bool, List, [], ◌∷◌, All, Op
 use Rattle.std.specs.Option.{option_map, option_map_or}
 use Rattle.sf_types.specs.declared.reply.Fault.TheVariants as fault
 use Rattle.sf_types.specs.Values.Marks.{Value, births_in, empty_value}
+use Rattle.sf_types.specs.Space.BlockRuns.{blocks_in}
 use Rattle.sf_types.specs.Calls.Refusals.{first_refusal}
 use Rattle.sf_types.specs.Halves.Asks.{Half, answer_or, births_with, kept_at, with_kept, with_kept_births}
 use Rattle.sf_types.specs.Halves.Asks as rule
 use Rattle.sf_versions.specs.declared.asks.Answer.{Answer}
 use Rattle.sf_versions.specs.Asks.{IsAnswer}
 use Rattle.sf_store_half.specs.Fields.{Fields, Keeps}
-use Rattle.sf_store_half.specs.HalfMoves.{IsRepacked}
+use Rattle.sf_store_half.specs.HalfMoves.{IsRepacked, blocks_left_over, new_places}
+use Rattle.sf_store_half.specs.declared.store_half.Published.{Published}
 
 -- The half where session s holds these births, and its transaction is open and it has ended, or not.
 abbrev pub kept_as : Half → ℕ → List ℕ → Bool → Bool → Half
@@ -35,3 +37,12 @@ twice value = option_map {U = Value × Value} (λ v. (v, v)) value
 -- What holds of each birth of a value, where there is one.
 abbrev pub OfValue : (ℕ → Type 0) → Option Value → Type 0
 OfValue P value = All P (option_map_or births_in value [])
+
+-- A call was published in some blocks: the fields keep the half after the step, with the new contents placed in order, and those
+-- blocks are left that none of them takes. After want of memory nothing has changed.
+pub record IsPublished {E : Type 0} (before after : Fields) (step : Half → Half × rule.Answer) (blocks : List ℕ) (result : Result Published E) : Type 0 where
+  pub kept : OnOk result ((h : Half) → Keeps before h → Keeps after (step h).0)
+  pub answer : IfOk result (λ published. (h : Half) → Keeps before h → IsAnswer published.answer (step h).1)
+  pub repacked : OnOk result ((h : Half) → Keeps before h → IsRepacked before.stock after.stock (new_places h (step h).0 blocks))
+  pub unused : IfOk result (λ published. (h : Half) → Keeps before h → blocks_in published.unused.held ≡ blocks_left_over h (step h).0 blocks)
+  pub err : OnErr result (after ≡ before)
