@@ -37,6 +37,7 @@ pub mod RaisedLemmas
 pub mod ReadLemmas
 pub mod RowAnswerLemmas
 pub mod SetLemmas
+pub mod SettledChangeLemmas
 pub mod SettledLemmas
 pub mod StockLemmas
 pub mod StockReachLemmas

@@ -6,4 +6,5 @@ pub mod Fields
 pub mod Floors
 pub mod Plans
 pub mod Promises
+pub mod Settled
 pub mod Trials

@@ -19,6 +19,7 @@ mod reserves;
 mod row_answers;
 mod row_sums;
 mod session_fields;
+mod settled_changes;
 mod settling;
 mod stock_steps;
 mod store_half;
