@@ -2,6 +2,7 @@ pub mod AnswerLemmas
 pub mod BetweenLemmas
 pub mod BlockLemmas
 pub mod CutNoteLemmas
+pub mod CutPlanLemmas
 pub mod FieldLemmas
 pub mod FloorLemmas
 pub mod FlushLemmas
@@ -17,8 +18,7 @@ pub mod LiveLemmas
 pub mod MadeLemmas
 pub mod NoteLemmas
 pub mod PlaceableLemmas
-pub mod PlanLemmas
-pub mod PlannedLemmas
+pub mod PlannedCutLemmas
 pub mod PublishedLemmas
 pub mod RaisedKeepsLemmas
 pub mod RaisedLemmas

@@ -1,7 +1,7 @@
 use Rattle.std.proofs.Common.{sym, ap, ◌∙◌}
 use Rattle.sf_dedup.specs.Contents.{birth_with}
 use Rattle.sf_store_half.specs.Inside.Plans.{stocked_from}
-use Rattle.sf_store_half.proofs.PlanLemmas.{found_by_index, found_first, found_later}
+use Rattle.sf_store_half.proofs.CutPlanLemmas.{found_by_index, found_first, found_later}
 use Rattle.sf_store_half.proofs.plans.find_planned.Goals as goal
 
 pub returns-in-Some : goal.returns-in-Some

@@ -1,9 +1,9 @@
-use Rattle.std.proofs.Common.{◌≡◌, ◌+◌, ◌≤◌, ◌∷◌, ◌++◌, [], length, take, drop, sym, ap, ◌∙◌, None, ℕ, List, arith}
+use Rattle.std.proofs.Common.{◌≡◌, length, take, drop, ap, ◌∙◌, ℕ, List, arith}
 use Rattle.sf_types.specs.Space.BlockRuns.{blocks_in}
 use Rattle.sf_types.specs.Space.Contents.{blocks_of}
 use Rattle.sf_dedup.specs.Contents.{content_at}
 use Rattle.sf_store_half.specs.Inside.CutNotes.{cut_of}
-use Rattle.sf_store_half.proofs.PlanLemmas.{no_entry, not_in_index, plan_grown, plan_stays}
+use Rattle.sf_store_half.proofs.CutPlanLemmas.{no_entry, not_in_index, plan_grown, plan_stays}
 use Rattle.sf_store_half.proofs.plans.plan_new.Goals as goal
 
 pub add_new-requires-clause-apart : goal.add_new-requires-clause-apart
