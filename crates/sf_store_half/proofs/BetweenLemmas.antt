@@ -4,7 +4,7 @@ use Rattle.std.specs.Prelude.{All}
 use Rattle.std.specs.List.{AllByRecursion as Each, filter}
 use Rattle.std.proofs.lemmas.List.{append-nil}
 use Rattle.std.proofs.lemmas.List.Elements.{All-from_recursion, recursion_from_All}
-use Rattle.sf_types.specs.Space.Placings.{all_blocks}
+use Rattle.sf_types.specs.Space.Placings.{Placed, all_blocks}
 use Rattle.sf_types.specs.Play.Blocks.{places_by_first}
 use Rattle.sf_lifetimes.specs.Ledgers.{Holdings, is_live}
 use Rattle.sf_stock.specs.Stocks.{Stocked, StockView, IsSound, has_left, is_stocked, place_of, places_of, with_holdings, with_left_parked}
@@ -85,3 +85,10 @@ repacked_between before now between sound =
           (ap all_blocks (since_parked before [] now between.since sound
           ∙ ap places_by_first (ap (λ xs. places_of (departed now.stocked xs)) all ∙ places-filter (λ b. not (is_stocked now.stocked b)) before.stocked)));
     }
+
+-- where nothing changes, nothing is repacked
+pub repacked_itself : (s : StockView) → s.left ≡ [] → IsSound s → All (λ x. is_live s.holdings x.birth ≡ true) s.stocked → IsRepacked s s []
+repacked_itself s none sound live =
+    let parked : s.parked ++ all_blocks (places_by_first s.left) ≡ s.parked = ap (λ (xs : List Placed). s.parked ++ all_blocks (places_by_first xs)) none ∙ append-nil s.parked in
+    let same : with_left_parked s ≡ s = (λ i. record s { left = sym none i; parked = parked i }) in
+    subst (λ (x : StockView). IsRepacked s x []) same (repacked_between s s (between_itself s none sound live) sound)

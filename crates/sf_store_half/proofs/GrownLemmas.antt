@@ -1,5 +1,5 @@
 -- Cuts that become contents by a plan, and by the rules.
-use Rattle.std.proofs.Common.{◌≡◌, ℕ, zero, suc, ◌+◌, ◌-◌, ◌≤◌, Bool, true, false, cond, List, [], ◌∷◌, ◌++◌, length, map, take, drop, Option, Some, None, refl, sym, ap, subst, ◌∙◌, append_assoc, arith}
+use Rattle.std.proofs.Common.{◌≡◌, ℕ, zero, suc, ◌+◌, ◌-◌, ◌≤◌, Bool, true, false, cond, List, [], ◌∷◌, ◌++◌, length, take, drop, Option, Some, None, refl, sym, ap, subst, ◌∙◌, append_assoc, arith}
 use Rattle.std.specs.Prelude.{◌&&◌, ◌||◌, bytes_eq, find, is_some, slice_get, sum_by, unwrap_or}
 use Rattle.std.specs.List.{AllByRecursion as Each, list_any, range_with_len}
 use Rattle.std.specs.Option.{option_map, option_map_or, option_or}
@@ -10,7 +10,6 @@ use Rattle.sf_types.specs.declared.limits.TheConstants.{CONTENT_BYTES}
 use Rattle.sf_types.specs.Table.Parts.{Content}
 use Rattle.sf_types.specs.Space.Contents.{blocks_of}
 use Rattle.sf_types.specs.Space.Cuts.{Cut}
-use Rattle.sf_types.specs.Space.Placings.{Placed}
 use Rattle.sf_types.specs.Space.Promises.{found_birth, is_equal_sharing, is_found, is_shared_as, new_cuts, wanted_blocks}
 use Rattle.sf_types.specs.Space.Publications.{birth_for, births_for, content_of_cut, contents_after, contents_with, reached_with}
 use Rattle.sf_types.specs.Space.Use.{blocks_of_birth, blocks_of_births, content_of}
@@ -19,7 +18,7 @@ use Rattle.sf_types.proofs.BoolLemmas.{both_first, both_second}
 use Rattle.sf_types.proofs.ListLemmas.{get_last}
 use Rattle.sf_laws.proofs.EachLemmas.{each_weaker, each-append}
 use Rattle.sf_laws.proofs.GivenBirthLemmas.{reached_after}
-use Rattle.sf_stock.specs.Stocks.{Stocked, births_of, place_of, places_of, shared_birth}
+use Rattle.sf_stock.specs.Stocks.{Stocked, births_of, places_of, shared_birth}
 use Rattle.sf_store_half.specs.Inside.CutNotes.{stocked_birth}
 use Rattle.sf_store_half.specs.Inside.Plans.{Planned, planned_all, planned_birth, planned_births, planned_with, stocked_cut}
 use Rattle.sf_store_half.proofs.CutPlanLemmas.{found_behind}

@@ -30,7 +30,7 @@ pub mod NoteLemmas
 pub mod OnceLemmas
 pub mod PlaceableLemmas
 pub mod PlanLemmas
-pub mod PlannedLemmas
+pub mod PlannedCutLemmas
 pub mod PublishedLemmas
 pub mod RaisedKeepsLemmas
 pub mod RaisedLemmas

@@ -1,5 +1,5 @@
 -- A writing call that is published by a plan of its cuts.
-use Rattle.std.proofs.Common.{◌≡◌, ℕ, ◌+◌, ◌-◌, ◌≤◌, true, Err, Result, List, [], ◌∷◌, length, drop, take, Option, None, Some, refl, sym, ap, subst, ◌∙◌, arith}
+use Rattle.std.proofs.Common.{◌≡◌, ℕ, ◌-◌, ◌≤◌, true, Err, Result, List, length, take, Option, None, refl, sym, ap, subst, ◌∙◌, arith}
 use Rattle.std.specs.Prelude.{◌||◌, All, flat_map, slice_get, slice_set, sum_by, unwrap_or}
 use Rattle.std.specs.List.{AllByRecursion as Each}
 use Rattle.std.specs.Option.{option_map_or}
@@ -11,13 +11,12 @@ use Rattle.sf_types.specs.Space.Cuts.{Cut, contents_of_value, cuts, cuts_of_valu
 use Rattle.sf_types.specs.Space.Reach.{values_in}
 use Rattle.sf_types.specs.Halves.Asks.{Given, Half, Kept, Request, Settles, births_with, kept_at, new_kept}
 use Rattle.sf_types.specs.Halves.Asks as rule
-use Rattle.sf_types.specs.Halves.Flushes.{half_births_for, half_publish, half_reach}
-use Rattle.sf_laws.proofs.CommitLemmas.{births-length}
+use Rattle.sf_types.specs.Halves.Flushes.{half_births_for, half_publish}
 use Rattle.sf_laws.proofs.EachLemmas.{each_weaker}
 use Rattle.sf_lifetimes.proofs.CountLemmas.{few_numbers}
 use Rattle.sf_lifetimes.proofs.LedgerLemmas.{named_fit}
 use Rattle.sf_lifetimes.specs.Ledgers.{has_birth}
-use Rattle.sf_stock.specs.Stocks.{IsSound, Stocked, is_stocked, places_of, with_left_parked}
+use Rattle.sf_stock.specs.Stocks.{IsSound, Stocked, is_stocked, with_left_parked}
 use Rattle.sf_stock.proofs.SinceLemmas.{stocked-append}
 use Rattle.sf_store_half.specs.Fields.{Fields, Keeps, session_field}
 use Rattle.sf_store_half.specs.HalfMoves.{AreEnough, ArePlaceable, AreStocked, BringsStocked, HasCutsOfRequest, HasField, IsRepacked, blocks_left_over, cuts_in, field_at, flushed_rows, new_places}
@@ -32,7 +31,7 @@ use Rattle.sf_store_half.specs.declared.session_fields.Promised.{Promised}
 use Rattle.sf_store_half.specs.declared.session_fields.SessionField.{SessionField}
 use Rattle.sf_store_half.proofs.GrownLemmas.{OfSize}
 use Rattle.sf_store_half.proofs.PlaceableLemmas.{all_stocked}
-use Rattle.sf_store_half.proofs.PlannedLemmas.{births_count, births_planned, births_stocked, cuts_alone, new_where, next_planned, placeable, places_planned, rest_planned, settled_among, settled_where, stocked_planned, value_sizes, with_where}
+use Rattle.sf_store_half.proofs.PlannedCutLemmas.{births_count, births_planned, births_stocked, cuts_alone, new_where, next_planned, placeable, places_planned, rest_planned, settled_among, settled_where, stocked_planned, value_sizes, with_where}
 use Rattle.sf_store_half.proofs.PublishedLemmas.{keeps_published, repacked_published}
 use Rattle.sf_store_half.proofs.SettledLemmas.{field_is, has_session, promised_set}
 

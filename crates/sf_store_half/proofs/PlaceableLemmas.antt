@@ -1,9 +1,9 @@
 -- New contents that a stock can take, one after the other.
-use Rattle.std.proofs.Common.{◌≡◌, ℕ, zero, suc, ◌+◌, ◌-◌, ◌≤◌, ◌<◌, ◌^◌, Bool, true, cond, nat_lt, List, [], ◌∷◌, ◌++◌, length, take, drop, refl, sym, ap, subst, ◌∙◌, append_assoc, arith}
+use Rattle.std.proofs.Common.{◌≡◌, ℕ, zero, suc, ◌+◌, ◌≤◌, ◌<◌, ◌^◌, cond, nat_lt, List, [], ◌∷◌, ◌++◌, length, take, drop, refl, sym, ap, subst, ◌∙◌, append_assoc, arith}
 use Rattle.std.specs.Prelude.{◌==◌, ◌≢◌, All, AllPairs, Contains, sum_by}
-use Rattle.std.specs.List.{AllByRecursion as Each, count_by}
+use Rattle.std.specs.List.{AllByRecursion as Each}
 use Rattle.std.specs.Cmp.{unsigned_Decides}
-use Rattle.std.proofs.lemmas.List.{append-nil, length-append, length-drop, length-take-le, map-append}
+use Rattle.std.proofs.lemmas.List.{append-nil, length-drop, length-take-le}
 use Rattle.std.proofs.lemmas.Grind.{div_ceil_times}
 use Rattle.std.proofs.lemmas.List.Elements.{All-from_recursion}
 use Rattle.std.proofs.lemmas.List.Sums.{sum_by-cons}
@@ -16,9 +16,8 @@ use Rattle.sf_laws.proofs.EachLemmas.{each_contained}
 use Rattle.sf_lifetimes.proofs.CountLemmas.{distinct, once_below}
 use Rattle.sf_lifetimes.proofs.LedgerLemmas.{named_fit}
 use Rattle.sf_lifetimes.proofs.ListingLemmas.{all_below}
-use Rattle.sf_lifetimes.specs.Ledgers.{Holdings}
 use Rattle.sf_stock.specs.Since.{IsSince}
-use Rattle.sf_stock.specs.Stocks.{IsNewPlace, IsSound, NewContentView, Stocked, StockView, newcomer, place_of, places_of, stock_blocks, with_new}
+use Rattle.sf_stock.specs.Stocks.{IsNewPlace, IsSound, NewContentView, Stocked, StockView, newcomer, places_of, stock_blocks, with_new}
 use Rattle.sf_stock.proofs.NewLemmas.{both_once, count-append, count_of}
 use Rattle.sf_stock.proofs.SinceLemmas.{since_new}
 use Rattle.sf_store_half.specs.Inside.Plans.{AreNewPlaces, stocked_from, with_all_new}

@@ -1,7 +1,7 @@
 -- What fields keep once new contents are placed and a session holds them.
-use Rattle.std.proofs.Common.{◌≡◌, ℕ, ◌+◌, ◌-◌, ◌≤◌, Bool, true, false, cond, not, List, [], ◌∷◌, ◌++◌, length, map, Option, None, Some, refl, sym, ap, subst, ◌∙◌, arith}
+use Rattle.std.proofs.Common.{◌≡◌, ℕ, ◌+◌, ◌-◌, Bool, true, cond, not, List, [], ◌∷◌, ◌++◌, length, Option, None, Some, refl, sym, ap, subst, ◌∙◌}
 use Rattle.std.specs.Prelude.{◌==◌, All, slice_set}
-use Rattle.std.specs.List.{AllByRecursion as Each, filter, range_with_len}
+use Rattle.std.specs.List.{AllByRecursion as Each, filter}
 use Rattle.std.specs.Option.{option_map_or}
 use Rattle.std.proofs.lemmas.List.{append-nil, map-append}
 use Rattle.std.proofs.lemmas.List.Elements.{All-from_recursion, filter-append, recursion_from_All}
@@ -12,18 +12,18 @@ use Rattle.sf_types.specs.Space.Cuts.{Cut}
 use Rattle.sf_types.specs.Space.Placings.{all_blocks}
 use Rattle.sf_types.specs.Space.Publications.{contents_after}
 use Rattle.sf_types.specs.Space.Use.{content_of}
-use Rattle.sf_types.specs.Halves.Asks.{Half, Kept, kept_at, with_kept}
+use Rattle.sf_types.specs.Halves.Asks.{Half, Kept, with_kept}
 use Rattle.sf_types.specs.Halves.Flushes.{half_reach, with_half_contents}
 use Rattle.sf_types.specs.Play.Blocks.{places_by_first}
 use Rattle.sf_types.proofs.NumberLemmas.{own_number}
-use Rattle.sf_laws.proofs.EachLemmas.{each_left, each_right, each_weaker, each-append}
+use Rattle.sf_laws.proofs.EachLemmas.{each_weaker, each-append}
 use Rattle.sf_lifetimes.specs.Ledgers.{Holdings, has_birth, held_by, is_live, with_births}
-use Rattle.sf_stock.specs.Since.{IsSince, departed, remaining}
+use Rattle.sf_stock.specs.Since.{IsSince, departed}
 use Rattle.sf_stock.specs.Stocks.{IsSound, NewContentView, Stocked, StockView, has_left, is_stocked, places_of, with_holder, with_left_parked}
 use Rattle.sf_stock.proofs.SinceLemmas.{since_held, since_itself, since_parked}
 use Rattle.sf_store_half.specs.Fields.{Fields, Keeps, held_in, is_session, session_field}
-use Rattle.sf_store_half.specs.HalfMoves.{IsRepacked, remaining_places}
-use Rattle.sf_store_half.specs.Inside.Plans.{Planned, planned_all, published_stock, stocked_from, unplanned, with_all_new}
+use Rattle.sf_store_half.specs.HalfMoves.{IsRepacked}
+use Rattle.sf_store_half.specs.Inside.Plans.{planned_all, published_stock, stocked_from, unplanned, with_all_new}
 use Rattle.sf_store_half.specs.declared.session_fields.SessionField.{SessionField}
 use Rattle.sf_store_half.proofs.BetweenLemmas.{each_kept, places-filter, stays_live}
 use Rattle.sf_store_half.proofs.GrownLemmas.{IsKnown, known_all}

@@ -55,7 +55,14 @@ fn end_promise(fields: &mut Vec<SessionField>, promised: &mut u64, session: u16)
 }
 
 // A plan of the cuts of a value in these blocks, and the value that is settled by it.
-fn plan_value(alloc: Global, stock: &Stock, options: &Options, flush: &Flush, runs: &Runs, value: &Map) -> Mem<(Plan, Map)>
+fn plan_value(
+    alloc: Global,
+    stock: &Stock,
+    options: &Options,
+    flush: &Flush,
+    runs: &Runs,
+    value: &Map,
+) -> Mem<(Plan, Map)>
     requires range { IsInRange options.now }
     requires prints { HasPrints flush.now }
     requires value { request_of_part flush.now.ask.part ≡ rule.Settles value.now }
@@ -125,7 +132,13 @@ impl StoreHalf {
     }
 
     // Publishes a writing call with this result.
-    fn publish_value(&mut self, session: u16, runs: &Runs, flush: &Flush, value: &Map) -> Mem<Published>
+    fn publish_value(
+        &mut self,
+        session: u16,
+        runs: &Runs,
+        flush: &Flush,
+        value: &Map,
+    ) -> Mem<Published>
         requires session { HasField self.old session }
         requires births { BringsStocked self.old flush.now.ask }
         requires prints { HasPrints flush.now }

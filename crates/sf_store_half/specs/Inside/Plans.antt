@@ -1,5 +1,5 @@
 -- What cuts of a publication become: each a birth, and new contents in the blocks that are given (our own).
-use Rattle.std.specs.Prelude.{◌≡◌, ℕ, ◌+◌, Bool, true, List, [], ◌∷◌, ◌++◌, length, map, take, drop, None, sum_by, is_some, unwrap_or, if◌then◌else◌}
+use Rattle.std.specs.Prelude.{◌≡◌, ℕ, ◌+◌, true, List, [], ◌∷◌, ◌++◌, length, take, drop, None, sum_by, is_some, unwrap_or, if◌then◌else◌}
 use Rattle.sf_types.specs.declared.holder.Holder.TheVariants as holder
 use Rattle.sf_types.specs.Space.BlockRuns.{blocks_in}
 use Rattle.sf_types.specs.Space.Contents.{blocks_of}

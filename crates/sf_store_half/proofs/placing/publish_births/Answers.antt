@@ -1,6 +1,3 @@
-use Rattle.sf_store_half.proofs.PlannedLemmas.{births_count}
-use Rattle.sf_store_half.proofs.PublishedLemmas.{known_first}
-use Rattle.sf_store_half.proofs.PlaceableLemmas.{all_next}
 use Rattle.std.proofs.Common.{[], ap, subst, ◌∙◌}
 use Rattle.sf_types.specs.declared.holder.Holder.TheVariants as holder
 use Rattle.sf_stock.specs.Stocks.{StockView, IsSound, with_holder}

@@ -1,4 +1,4 @@
-use Rattle.std.proofs.Common.{◌≡◌, ◌+◌, ◌≤◌, ◌<◌, List, ℕ, [], ◌∷◌, ◌++◌, drop, length, map, sym, ap, subst, ◌∙◌, append_assoc, arith}
+use Rattle.std.proofs.Common.{◌≡◌, ◌+◌, ◌≤◌, List, ℕ, [], ◌∷◌, ◌++◌, drop, length, map, sym, ap, ◌∙◌, append_assoc, arith}
 use Rattle.std.specs.Prelude.{All, slice_get}
 use Rattle.std.proofs.lemmas.List.{append-nil, map-append}
 use Rattle.sf_types.specs.declared.limits.TheConstants.{CONTENT_BYTES}
@@ -7,7 +7,7 @@ use Rattle.sf_dedup.specs.Prints.{print_of}
 use Rattle.sf_chunk_map.specs.Contents.{StoredContent}
 use Rattle.sf_store_half.specs.HalfMoves.{cuts_in}
 use Rattle.sf_store_half.specs.Inside.CutNotes.{cut_of}
-use Rattle.sf_store_half.specs.Inside.Plans.{Planned, planned_all, planned_birth, planned_births, planned_by, planned_with}
+use Rattle.sf_store_half.specs.Inside.Plans.{Planned, planned_all, planned_birth, planned_births, planned_by}
 use Rattle.sf_store_half.proofs.FlushLemmas.{next_cut, no_cut_past_contents, no_cut_past_choices, none_of_map}
 use Rattle.sf_store_half.proofs.CutPlanLemmas.{some_within, all_dropped}
 use Rattle.sf_store_half.proofs.plans.plan_cuts.Goals as goal

@@ -1,4 +1,4 @@
-use Rattle.std.proofs.Common.{◌≡◌, ◌+◌, ◌≤◌, ◌∷◌, ◌++◌, [], length, take, drop, sym, ap, ◌∙◌, None, ℕ, List, arith}
+use Rattle.std.proofs.Common.{◌≡◌, length, take, drop, ap, ◌∙◌, ℕ, List, arith}
 use Rattle.sf_types.specs.Space.BlockRuns.{blocks_in}
 use Rattle.sf_types.specs.Space.Contents.{blocks_of}
 use Rattle.sf_dedup.specs.Contents.{content_at}

@@ -1,10 +1,4 @@
-use Rattle.std.proofs.Common.{◌≡◌, ◌-◌, ◌+◌, None, Some, Option, ℕ, refl, sym, ap, ◌∙◌, arith}
-use Rattle.std.specs.Prelude.{slice_get, sum_by, unwrap_or}
-use Rattle.std.specs.Option.{option_map_or}
-use Rattle.sf_types.specs.Halves.Asks.{new_kept}
-use Rattle.sf_store_half.specs.Fields.{session_field}
-use Rattle.sf_store_half.specs.Inside.Fields.{promised_blocks}
-use Rattle.sf_store_half.specs.declared.session_fields.Promised.{Promised}
+use Rattle.std.proofs.Common.{sym, ◌∙◌, arith}
 use Rattle.sf_store_half.proofs.MadeLemmas.{none_taken}
 use Rattle.sf_store_half.proofs.SettledLemmas.{promise_taken}
 use Rattle.sf_store_half.proofs.publications.end_promise.Goals as goal

@@ -1,12 +1,11 @@
-use Rattle.std.proofs.Common.{◌≡◌, List, ℕ, [], ◌∷◌, Some, map, sym, ap, subst, ◌∙◌}
+use Rattle.std.proofs.Common.{◌≡◌, map, sym, ap, subst, ◌∙◌}
 use Rattle.std.specs.List.{AllByRecursion as Each}
 use Rattle.std.proofs.lemmas.List.Elements.{All-from_recursion}
 use Rattle.sf_types.specs.Space.Cuts.{Cut, cuts, cuts_of_value}
 use Rattle.sf_types.specs.Halves.Asks.{Request}
-use Rattle.sf_versions.specs.Asks.{request_of_part}
 use Rattle.sf_store_half.specs.HalfMoves.{cuts_in, flushed_rows}
 use Rattle.sf_store_half.proofs.GrownLemmas.{OfSize}
-use Rattle.sf_store_half.proofs.PlannedLemmas.{bytes_of_cuts, cuts_alone, value_sizes}
+use Rattle.sf_store_half.proofs.PlannedCutLemmas.{bytes_of_cuts, cuts_alone, value_sizes}
 use Rattle.sf_store_half.proofs.publications.plan_value.Goals as goal
 
 pub plan_cuts-requires-clause-sizes : goal.plan_cuts-requires-clause-sizes

@@ -1,31 +1,29 @@
 -- What a plan of a publication's cuts is by the rules, and the births that are settled by it.
-use Rattle.std.proofs.Common.{◌≡◌, ℕ, suc, ◌+◌, ◌-◌, ◌≤◌, ◌<◌, ◌^◌, Bool, true, false, cond, List, [], ◌∷◌, ◌++◌, length, map, take, drop, Option, None, Some, refl, sym, ap, subst, ◌∙◌, arith}
-use Rattle.std.specs.Prelude.{◌==◌, ◌≢◌, ◌||◌, All, AllPairs, Contains, find, is_some, sum_by, unwrap_or}
+use Rattle.std.proofs.Common.{◌≡◌, ℕ, suc, ◌+◌, ◌-◌, Bool, true, false, cond, List, [], ◌∷◌, ◌++◌, length, map, drop, Option, None, Some, refl, sym, ap, subst, ◌∙◌, arith}
+use Rattle.std.specs.Prelude.{◌==◌, ◌||◌, find, is_some, sum_by, unwrap_or}
 use Rattle.std.specs.List.{AllByRecursion as Each, range_with_len}
 use Rattle.std.specs.Option.{option_map}
-use Rattle.std.proofs.lemmas.List.{append-nil, length-map, take_all}
-use Rattle.std.proofs.lemmas.List.Elements.{All-from_recursion, recursion_from_All}
+use Rattle.std.proofs.lemmas.List.{append-nil, take_all}
+use Rattle.std.proofs.lemmas.List.Elements.{recursion_from_All}
 use Rattle.sf_types.specs.declared.options.Options.{Options}
 use Rattle.sf_types.specs.Table.Parts.{Content}
 use Rattle.sf_types.specs.Values.Marks.{Value, births_in}
 use Rattle.sf_types.specs.Space.BlockRuns.{blocks_in}
-use Rattle.sf_types.specs.Space.Cuts.{Cut, contents_of_value, cuts, cuts_of_value, is_sharing, segments_of, settle_value, stored_bytes, stored_bytes_from}
-use Rattle.sf_types.specs.Space.Placings.{all_blocks}
-use Rattle.sf_types.specs.Space.Publications.{births_for, contents_after}
+use Rattle.sf_types.specs.Space.Cuts.{Cut, contents_of_value, cuts, cuts_of_value, is_sharing, segments_of, settle_value, stored_bytes_from}
+use Rattle.sf_types.specs.Space.Publications.{contents_after}
 use Rattle.sf_types.specs.Space.Use.{blocks_of_births, content_of}
 use Rattle.sf_types.specs.Halves.Asks.{Half, births_with}
-use Rattle.sf_types.specs.Halves.Flushes.{half_births_for, half_reach, half_wanted_blocks, with_half_contents}
+use Rattle.sf_types.specs.Halves.Flushes.{half_births_for, half_reach, with_half_contents}
 use Rattle.sf_types.specs.Play.Blocks.{places_of_new}
-use Rattle.sf_types.proofs.NumberLemmas.{own_number, same_number}
-use Rattle.sf_laws.proofs.EachLemmas.{each_left, each_right, each_weaker, each-append, each-map}
-use Rattle.sf_laws.proofs.CommitLemmas.{births-length}
+use Rattle.sf_types.proofs.NumberLemmas.{own_number}
+use Rattle.sf_laws.proofs.EachLemmas.{each_right, each-append, each-map}
 use Rattle.sf_laws.proofs.GivenBirthLemmas.{reached_after}
 use Rattle.sf_laws.proofs.ReachLemmas.{OfBirth, each-births_in, each-rising, each_from_births_in, each_from_rising, unstored_birth}
 use Rattle.sf_laws.proofs.SettleLemmas.{OfStored, Paired, settled_value_holds}
 use Rattle.sf_laws.proofs.SettledBirthLemmas.{from_given, from_value}
 use Rattle.sf_laws.proofs.StretchLemmas.{IsContentSize, contents-sizes}
 use Rattle.sf_lifetimes.specs.Ledgers.{has_birth}
-use Rattle.sf_stock.specs.Stocks.{IsSound, Stocked, StockView, births_of, is_stocked, places_of, shared_birth, is_shared_with}
+use Rattle.sf_stock.specs.Stocks.{IsSound, Stocked, births_of, is_stocked, places_of, shared_birth, is_shared_with}
 use Rattle.sf_stock.proofs.SinceLemmas.{stocked-append}
 use Rattle.sf_store_half.specs.Fields.{Fields, Keeps}
 use Rattle.sf_store_half.specs.HalfMoves.{AreEnough, ArePlaceable, births_between, new_places}
