@@ -1,6 +1,6 @@
 -- Plans of new contents beside a stock.
 use Rattle.std.proofs.Common.{◌≡◌, ℕ, zero, suc, ◌+◌, ◌≤◌, ◌<◌, Bool, true, false, cond, List, [], ◌∷◌, ◌++◌, length, take, drop, Option, Some, None, Greater, refl, sym, ap, subst, ◌∙◌, append_assoc, arith}
-use Rattle.std.specs.Prelude.{◌&&◌, bytes_eq, find, is_some, slice_get, All}
+use Rattle.std.specs.Prelude.{◌&&◌, bytes_eq, find, is_some, All}
 use Rattle.std.specs.List.{AllByRecursion as Each}
 use Rattle.std.proofs.lemmas.List.Elements.{recursion_from_All}
 use Rattle.std.specs.Option.{option_map, option_or}
@@ -148,11 +148,6 @@ not_in_index stock plan cut are none shares =
     ap (λ es. birth_with es cut.bytes) are.firsts
     ∙ found_by_index (stocked_from stock.next plan.news.items) cut.bytes
     ∙ none_later stock.stocked (stocked_from stock.next plan.news.items) cut.bytes (ap (λ t. cond {A = Option ℕ} t (shared_birth (planned_by stock plan).stocked cut.bytes) None) (sym shares) ∙ none)
-
-pub some_within : {X : Type 0} (xs : List X) (k : ℕ) (x : X) → slice_get xs k ≡ Some x → k < length xs
-some_within [] k x is = absurd cc
-some_within (y ∷ ys) zero x is = omega arith
-some_within (y ∷ ys) (suc k) x is = omega (arith, some_within ys k x is)
 
 -- what holds of all holds of one that stands at a number
 pub all_dropped : {X : Type 0} (P : X → Type 0) (xs : List X) (at : ℕ) (x : X) (rest : List X) → All P xs → drop at xs ≡ x ∷ rest → P x

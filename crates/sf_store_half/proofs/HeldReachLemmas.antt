@@ -88,7 +88,7 @@ versions_held h are =
 last_off : (k : ℕ) → k + 1 - 1 ≡ k
 last_off k = omega arith
 
-within : {X : Type 0} (xs : List X) (k : ℕ) (x : X) → slice_get xs k ≡ Some x → k < length xs
+pub within : {X : Type 0} (xs : List X) (k : ℕ) (x : X) → slice_get xs k ≡ Some x → k < length xs
 within [] k x is = absurd cc
 within (y ∷ ys) zero x is = omega arith
 within (y ∷ ys) (suc k) x is = omega (arith, within ys k x is)

@@ -99,9 +99,6 @@ module _ (f : Fields) (s : ℕ) (blocks : List ℕ) (of : List Cut) (v settled :
         made.settled_is
         ∙ ap (settle_value v) (sym (take_all (length (contents_of_value v)) given (omega (arith, count))) ∙ ap (take (length (contents_of_value v))) (births_planned f blocks of plan made.planned sizes h keeps made.sound))
 
-    kept_then : Kept
-    kept_then = record (kept_at h s) { births = births_with kept (settle_value v (take (length (contents_of_value v)) (half_births_for h of))); promise = None }
-
     pub made_answer : (half_publish h s (Settles v) of kept).1 ≡ Given settled
     made_answer = ap Given (sym settled_same)
 

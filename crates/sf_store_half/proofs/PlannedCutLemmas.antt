@@ -6,7 +6,6 @@ use Rattle.std.specs.Option.{option_map}
 use Rattle.std.proofs.lemmas.List.{append-nil, take_all}
 use Rattle.std.proofs.lemmas.List.Elements.{recursion_from_All}
 use Rattle.sf_types.specs.declared.options.Options.{Options}
-use Rattle.sf_types.specs.Table.Parts.{Content}
 use Rattle.sf_types.specs.Values.Marks.{Value, births_in}
 use Rattle.sf_types.specs.Space.BlockRuns.{blocks_in}
 use Rattle.sf_types.specs.Space.Cuts.{Cut, contents_of_value, cuts, cuts_of_value, is_sharing, segments_of, settle_value, stored_bytes_from}
@@ -80,9 +79,6 @@ module _ (f : Fields) (blocks : List ℕ) (of : List Cut) (plan : Plan) (planned
 
     -- what the rules say of it
     module _ (h : Half) (keeps : Keeps f h) (sound : IsSound f.stock) where
-      after : List Content
-      after = contents_after h.contents (half_reach h) of
-
       known : IsKnown (planned_all first of) (contents_after h.contents (half_reach h) of) (reached_after h.contents (half_reach h) of)
       known = known_all first h.contents (half_reach h) of (known_first f h blocks keeps sound)
 

@@ -1,6 +1,5 @@
 //! Publications of calls to which blocks were promised.
 ghost use Rattle.std.specs.Prelude.{◌≡◌, ◌-◌, ◌≤◌, None, ◌<◌, ◌^◌, length, slice_get, slice_set, sum_by, unwrap_or, All, IfOk, OnOk, OnErr};
-ghost use Rattle.sf_types.specs.Limits.{IsInRange};
 ghost use Rattle.sf_types.specs.Space.BlockRuns.{blocks_in};
 ghost use Rattle.sf_types.specs.Space.Cuts.{settle_value};
 ghost use Rattle.sf_types.specs.Halves.Asks.{Half, new_kept};
@@ -63,7 +62,6 @@ fn plan_value(
     runs: &Runs,
     value: &Map,
 ) -> Mem<(Plan, Map)>
-    requires range { IsInRange options.now }
     requires prints { HasPrints flush.now }
     requires value { request_of_part flush.now.ask.part ≡ rule.Settles value.now }
     requires cuts { HasCutsOfRequest options.now flush.now }

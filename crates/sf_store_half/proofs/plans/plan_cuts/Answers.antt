@@ -9,7 +9,8 @@ use Rattle.sf_store_half.specs.HalfMoves.{cuts_in}
 use Rattle.sf_store_half.specs.Inside.CutNotes.{cut_of}
 use Rattle.sf_store_half.specs.Inside.Plans.{Planned, planned_all, planned_birth, planned_births, planned_by}
 use Rattle.sf_store_half.proofs.FlushLemmas.{next_cut, no_cut_past_contents, no_cut_past_choices, none_of_map}
-use Rattle.sf_store_half.proofs.CutPlanLemmas.{some_within, all_dropped}
+use Rattle.sf_store_half.proofs.HeldReachLemmas.{within}
+use Rattle.sf_store_half.proofs.CutPlanLemmas.{all_dropped}
 use Rattle.sf_store_half.proofs.plans.plan_cuts.Goals as goal
 use Rattle.sf_store_half.proofs.plans.plan_cuts.Goals.{in_default, in_default-2, in_default-3}
 
@@ -31,13 +32,13 @@ plan_cut-requires-clause-size c =
 
 pub overflow_add-at : goal.overflow_add-at
 overflow_add-at c =
-    let within = some_within c.args.flush.now.contents c.loop-content.at c.in-Some-Some-Some.content.now (sym c.in-Some-Some-Some.ensures) in
-    omega (arith, within, c.len-count.ensures, c.len-count.auto)
+    let below = within c.args.flush.now.contents c.loop-content.at c.in-Some-Some-Some.content.now (sym c.in-Some-Some-Some.ensures) in
+    omega (arith, below, c.len-count.ensures)
 
 pub loop-content-smaller : goal.loop-content-smaller
 loop-content-smaller c =
-    let within = some_within c.args.flush.now.contents c.loop-content.at c.in-Some-Some-Some.content.now (sym c.in-Some-Some-Some.ensures) in
-    omega (arith, within)
+    let below = within c.args.flush.now.contents c.loop-content.at c.in-Some-Some-Some.content.now (sym c.in-Some-Some-Some.ensures) in
+    omega (arith, below)
 
 pub loop-content-preserved : goal.loop-content-preserved
 loop-content-preserved c =
