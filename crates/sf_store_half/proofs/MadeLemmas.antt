@@ -122,6 +122,7 @@ module _ (f : Fields) (s : ℕ) (blocks : List ℕ) (of : List Cut) (v settled :
       → promised ≡ sum_by promised_blocks sessions → promised ≤ before → AreKept (record f { sessions = sessions; stock = with_left_parked (published_stock f.stock s plan.news.items births) }) promised
   made_kept promised before sessions are set sum fewer = record {
     in_range = are.in_range;
+    reached = are.reached;
     count = sum;
     few = omega (arith, fewer, are.few);
     half = (half_publish are.half s (Settles v) of kept).0;

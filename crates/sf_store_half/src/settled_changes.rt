@@ -28,7 +28,12 @@ fn take_chunks(alloc: Global, chunks: &ChunkList, from: usize, bytes: u64) -> Me
 }
 
 // A change whose value is settled by the chunks from one on, and how many these are.
-fn settle_change(alloc: Global, change: &Change, chunks: &ChunkList, from: usize) -> Mem<(Change, usize)>
+fn settle_change(
+    alloc: Global,
+    change: &Change,
+    chunks: &ChunkList,
+    from: usize,
+) -> Mem<(Change, usize)>
     requires { take (length (contents_of_change change.now)) (map (λ chunk. chunk.bytes) (drop from chunks.now)) ≡ contents_of_change change.now }
     ensures settled { IfOk result (λ made. made.0 ∷ [] ≡ settle (change.now ∷ []) (map (λ chunk. chunk.birth) (drop from chunks.now))) }
     ensures count { IfOk result (λ made. made.1 ≡ length (contents_of_change change.now)) }
