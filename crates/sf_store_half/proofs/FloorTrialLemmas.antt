@@ -17,7 +17,7 @@ use Rattle.sf_store_half.specs.declared.floor_trials.Trial.{Trial}
 use Rattle.sf_store_half.specs.Fields.{Fields}
 use Rattle.sf_store_half.specs.Inside.CutNotes.{blocks_for_all}
 use Rattle.sf_store_half.specs.Inside.Fields.{promised_blocks}
-use Rattle.sf_store_half.specs.Inside.Promises.{IsCandidate, IsLastTrial, IsNextFloor, IsTrial, fits_at, free_at, holders_at}
+use Rattle.sf_store_half.specs.Inside.Promises.{IsCandidate, IsLastTrial, IsNextFloor, IsTrial, fits_at_floor, free_at, holders_at}
 use Rattle.sf_store_half.specs.Inside.Trials.{IsGivenUpOf, is_reached, reached_stock, version_of}
 use Rattle.sf_store_half.proofs.DueLemmas.{IsBefore, due_before, due_same, each_place, in_order, later_note}
 
@@ -59,9 +59,9 @@ due_next f s births cuts t floor rising tried up =
     omega (arith, tried.due, whole, length-append before (drop (length before) after))
 
 -- ---- the next floor
-pub next_is : (f : Fields) (t : Trial) (note : Note) → IsInOrder f.notes → Each (λ n. n.until ≤ f.versions.now) f.notes → t.due ≡ length (due_pairs f.notes t.floor)
+pub next_floor_is : (f : Fields) (t : Trial) (note : Note) → IsInOrder f.notes → Each (λ n. n.until ≤ f.versions.now) f.notes → t.due ≡ length (due_pairs f.notes t.floor)
     → slice_get f.notes t.due ≡ Some note → nat_le t.wanted t.free ≡ false → f.options.max ≡ true → IsNextFloor f t note.until
-next_is f t note rising early due is fails rises =
+next_floor_is f t note rising early due is fails rises =
     let at : slice_get f.notes (length (due_pairs f.notes t.floor)) ≡ Some note = ap (slice_get f.notes) (sym due) ∙ is in
     record {
       fails = fails;
@@ -71,17 +71,17 @@ next_is f t note rising early due is fails rises =
       same = λ g low less. due_same f.notes t.floor g (in_order f.notes rising) low (subst (IsBefore g) (sym at) less);
     }
 
-pub last_is : (f : Fields) (t : Trial) → IsInOrder f.notes → t.due ≡ length (due_pairs f.notes t.floor) → slice_get f.notes t.due ≡ None → IsLastTrial f t
-last_is f t rising due none _ g low _ =
+pub last_trial_is : (f : Fields) (t : Trial) → IsInOrder f.notes → t.due ≡ length (due_pairs f.notes t.floor) → slice_get f.notes t.due ≡ None → IsLastTrial f t
+last_trial_is f t rising due none _ g low _ =
     due_same f.notes t.floor g (in_order f.notes rising) low (subst (IsBefore g) (sym (ap (slice_get f.notes) (sym due) ∙ none)) tt)
 
 -- where the same versions are due a promise fits alike
-pub fits_where_due : (f : Fields) (s : ℕ) (births : List ℕ) (cuts : List CutNote) (g floor : ℕ) → due_pairs f.notes g ≡ due_pairs f.notes floor → fits_at f s births cuts g ≡ fits_at f s births cuts floor
+pub fits_where_due : (f : Fields) (s : ℕ) (births : List ℕ) (cuts : List CutNote) (g floor : ℕ) → due_pairs f.notes g ≡ due_pairs f.notes floor → fits_at_floor f s births cuts g ≡ fits_at_floor f s births cuts floor
 fits_where_due f s births cuts g floor same =
     ap (λ (ps : List Pair). nat_le (blocks_for_all (is_reached f.stock.holdings (holder.Session s ∷ map version_of ps) births) cuts)
     (f.options.capacity - (block_count (reached_stock f.stock (holder.Session s ∷ map version_of ps) births) + sum_by promised_blocks f.sessions))) same
 
-pub fits_as_tried : (f : Fields) (s : ℕ) (births : List ℕ) (cuts : List CutNote) (t : Trial) → IsTrial f s births cuts t → fits_at f s births cuts t.floor ≡ nat_le t.wanted t.free
+pub fits_as_tried : (f : Fields) (s : ℕ) (births : List ℕ) (cuts : List CutNote) (t : Trial) → IsTrial f s births cuts t → fits_at_floor f s births cuts t.floor ≡ nat_le t.wanted t.free
 fits_as_tried f s births cuts t tried = ap (λ n. nat_le n (free_at f s births t.floor)) (sym tried.wanted) ∙ ap (nat_le t.wanted) (sym tried.free)
 
 pub candidate_next : (f : Fields) (s : ℕ) (births : List ℕ) (cuts : List CutNote) (t : Trial) (next : ℕ) → IsTrial f s births cuts t → IsCandidate f s births cuts t.floor → IsNextFloor f t next → IsCandidate f s births cuts next
@@ -92,6 +92,6 @@ candidate_next f s births cuts t next tried so_far up = record {
   alone = λ never. absurd (let bad : true ≡ false = sym up.rises ∙ never in cc);
 }
   where
-    below : (g : ℕ) → f.floor ≤ g → g < next → (g < t.floor) ⊎ (t.floor ≤ g) → fits_at f s births cuts g ≡ false
+    below : (g : ℕ) → f.floor ≤ g → g < next → (g < t.floor) ⊎ (t.floor ≤ g) → fits_at_floor f s births cuts g ≡ false
     below g low less (inl early) = so_far.least g low early
     below g low less (inr late) = fits_where_due f s births cuts g t.floor (up.same g late less) ∙ fits_as_tried f s births cuts t tried ∙ up.fails

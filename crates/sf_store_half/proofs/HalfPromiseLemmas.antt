@@ -14,16 +14,19 @@ use Rattle.sf_types.specs.declared.holder.Holder.TheVariants as holder
 use Rattle.sf_types.proofs.NumberLemmas.{at_most}
 use Rattle.sf_store_half.specs.Inside.Fields.{AreKept}
 use Rattle.sf_stock.specs.Stocks.{IsSound, is_stocked, with_holder}
+use Rattle.sf_versions.specs.declared.asks.Flush.{Flush}
 use Rattle.sf_store_half.specs.declared.cut_notes.CutNote.{CutNote}
 use Rattle.sf_store_half.specs.declared.decisions.Decision.{Decision}
 use Rattle.sf_store_half.specs.declared.decisions.Decision.TheVariants as decision
 use Rattle.sf_store_half.specs.declared.decisions.Grant.{Grant}
 use Rattle.sf_store_half.specs.Fields.{Fields, Keeps, is_session}
+use Rattle.sf_store_half.specs.HalfMoves.{AreStocked, HasField, cuts_in}
 use Rattle.sf_store_half.specs.Inside.CutNotes.{notes_from}
-use Rattle.sf_store_half.specs.Inside.Promises.{CanCarryOut, IsDecided, IsGranted, IsRefused, fits_at, free_at, half_decided, half_granted, last_floor, verdict_of, wanted_at}
+use Rattle.sf_store_half.specs.Inside.Promises.{CanCarryOut, IsDecided, IsGranted, IsRefused, fits_at_floor, free_at, half_decided, half_granted, last_tried_floor, verdict_of, wanted_at}
 use Rattle.sf_store_half.proofs.AnswerLemmas.{set_twice}
 use Rattle.sf_store_half.proofs.FoundBirthLemmas.{found_stocked, found_where_tried}
 use Rattle.sf_store_half.proofs.HeldLemmas.{kept_with}
+use Rattle.sf_store_half.proofs.SettledLemmas.{has_session}
 use Rattle.sf_store_half.proofs.TriedCutLemmas.{free_where_tried, wanted_where_tried}
 
 -- ---- the first number that passes a test
@@ -82,23 +85,23 @@ module _ (f : Fields) (h : Half) (s : ℕ) (births : List ℕ) (call : Call) (cu
       let now = keeps.now in
       sym (free_where_tried f h g s births keeps (omega (arith, at, low)) (omega (arith, now, high)) is sound brought)
 
-  fits_same : (g : ℕ) → f.floor ≤ g → g ≤ f.versions.now → fits g ≡ fits_at f s births notes g
+  fits_same : (g : ℕ) → f.floor ≤ g → g ≤ f.versions.now → fits g ≡ fits_at_floor f s births notes g
   fits_same g low high = sym (ap (λ n. nat_le n (free_at f s births g)) (wanted_same g low high) ∙ ap (nat_le (half_wanted_blocks held cuts g)) (free_same g low high))
 
-  last_same : cond {A = ℕ} h.options.max (length h.commits) h.floor ≡ last_floor f
+  last_same : cond {A = ℕ} h.options.max (length h.commits) h.floor ≡ last_tried_floor f
   last_same =
       ap (λ (o : _). cond {A = ℕ} o.max (length h.commits) h.floor) (sym keeps.options)
       ∙ ap (λ n. cond {A = ℕ} f.options.max n h.floor) (sym keeps.now)
       ∙ ap (cond {A = ℕ} f.options.max f.versions.now) (sym keeps.floor)
 
-  last_within : last_floor f ≤ f.versions.now
+  last_within : last_tried_floor f ≤ f.versions.now
   last_within = by_option f.options.max
     where
       by_option : (t : Bool) → cond {A = ℕ} t f.versions.now f.floor ≤ f.versions.now
       by_option true = omega arith
       by_option false = within
 
-  last_from : f.floor ≤ last_floor f
+  last_from : f.floor ≤ last_tried_floor f
   last_from = by_option f.options.max
     where
       by_option : (t : Bool) → f.floor ≤ cond {A = ℕ} t f.versions.now f.floor
@@ -137,20 +140,20 @@ module _ (f : Fields) (h : Half) (s : ℕ) (births : List ℕ) (call : Call) (cu
       let none : find fits (half_candidates held) ≡ None =
       none_among fits h.options.max (length h.commits) h.floor
       (λ g low high.
-      let up : g ≤ last_floor f = omega (arith, high, last_same) in
+      let up : g ≤ last_tried_floor f = omega (arith, high, last_same) in
       fits_same g (omega (arith, at, low)) (omega (arith, up, last_within)) ∙ refused.none g (omega (arith, at, low)) up) in
-      let last : unwrap_or (last_or None (half_candidates held)) held.floor ≡ last_floor f = end-is h.options.max (table_of_half h) (omega (arith, at, now, within)) ∙ last_same in
+      let last : unwrap_or (last_or None (half_candidates held)) held.floor ≡ last_tried_floor f = end-is h.options.max (table_of_half h) (omega (arith, at, now, within)) ∙ last_same in
       ap (half_promise_at held s call cuts) none
       ∙ ap (λ g. (held, NoSpace (half_wanted_blocks held cuts g) (half_free (half_at held g)))) last
-      ∙ ap (λ n. (held, NoSpace n (half_free (half_at held (last_floor f))))) (sym (refused.wanted_there ∙ wanted_same (last_floor f) last_from last_within))
-      ∙ ap (λ n. (held, NoSpace wanted n)) (sym (refused.free_there ∙ free_same (last_floor f) last_from last_within))
+      ∙ ap (λ n. (held, NoSpace n (half_free (half_at held (last_tried_floor f))))) (sym (refused.wanted_there ∙ wanted_same (last_tried_floor f) last_from last_within))
+      ∙ ap (λ n. (held, NoSpace wanted n)) (sym (refused.free_there ∙ free_same (last_tried_floor f) last_from last_within))
 
-  pub decided_same : (x : Decision) → IsDecided f s births notes x → half_promise held s call cuts ≡ (half_decided h s births call x, verdict_of x)
+  decided_same : (x : Decision) → IsDecided f s births notes x → half_promise held s call cuts ≡ (half_decided h s births call x, verdict_of x)
   decided_same (decision.Granted grant) decided = granted_same grant decided
   decided_same (decision.NoSpace wanted free) decided = refused_same wanted free decided
 
 -- what was decided can be carried out
-pub can_carry_out : (f : Fields) (promised s : ℕ) (births : List ℕ) (cuts : List Cut) (x : Decision) → AreKept f promised → IsDecided f s births (notes_from f.stock.stocked [] 0 cuts) x → CanCarryOut f s births x
+can_carry_out : (f : Fields) (promised s : ℕ) (births : List ℕ) (cuts : List Cut) (x : Decision) → AreKept f promised → IsDecided f s births (notes_from f.stock.stocked [] 0 cuts) x → CanCarryOut f s births x
 can_carry_out f promised s births cuts (decision.Granted grant) kept decided = record {
   low = decided.candidate.low;
   high = decided.candidate.high;
@@ -162,3 +165,18 @@ can_carry_out f promised s births cuts (decision.Granted grant) kept decided = r
       omega (arith, few, decided.wanted, kept.count, kept.few);
 }
 can_carry_out f promised s births cuts (decision.NoSpace wanted free) kept decided = tt
+
+-- ---- of a store's half, seen as its fields
+module _ (own f : Fields) (promised s : ℕ) (births : List ℕ) (flush : Flush) (cuts : List CutNote) (x : Decision) (view : own ≡ f) (kept : AreKept own promised)
+    (noted : cuts ≡ notes_from own.stock.stocked [] 0 (cuts_in own.options flush)) (decided : IsDecided f s births cuts x) where
+  decided_here : IsDecided f s births (notes_from f.stock.stocked [] 0 (cuts_in f.options flush)) x
+  decided_here = subst (λ (xs : List CutNote). IsDecided f s births xs x) (noted ∙ ap (λ (y : Fields). notes_from y.stock.stocked [] 0 (cuts_in y.options flush)) view) decided
+
+  pub carried_out : CanCarryOut f s births x
+  carried_out = can_carry_out f promised s births (cuts_in f.options flush) x (subst (λ (y : Fields). AreKept y promised) view kept) decided_here
+
+  pub promise_by_view : (h : Half) → IsSound own.stock → Keeps f h → HasField f s → AreStocked f births
+      → half_promise (with_kept_births h s births) s flush.ask.call (cuts_in f.options flush) ≡ (half_decided h s births flush.ask.call x, verdict_of x)
+  promise_by_view h sound keeps has brought =
+      decided_same f h s births flush.ask.call (cuts_in f.options flush) keeps (subst (λ (y : Fields). y.floor ≤ y.versions.now) view kept.reached) (has_session f h s keeps has)
+      (subst (λ (y : Fields). IsSound y.stock) view sound) brought x decided_here

@@ -34,12 +34,12 @@ free_at f s births floor =
     f.options.capacity - (block_count (reached_stock f.stock (holders_at f s floor) births) + sum_by promised_blocks f.sessions)
 
 -- Whether a promise fits at a floor.
-abbrev pub fits_at : Fields → ℕ → List ℕ → List CutNote → ℕ → Bool
-fits_at f s births cuts floor = nat_le (wanted_at f s births cuts floor) (free_at f s births floor)
+abbrev pub fits_at_floor : Fields → ℕ → List ℕ → List CutNote → ℕ → Bool
+fits_at_floor f s births cuts floor = nat_le (wanted_at f s births cuts floor) (free_at f s births floor)
 
 -- The last floor at which a promise may be tried.
-abbrev pub last_floor : Fields → ℕ
-last_floor f = if f.options.max then f.versions.now else f.floor
+abbrev pub last_tried_floor : Fields → ℕ
+last_tried_floor f = if f.options.max then f.versions.now else f.floor
 
 -- A promise of session s is tried at a floor.
 pub record IsTrial (f : Fields) (s : ℕ) (births : List ℕ) (cuts : List CutNote) (trial : Trial) : Type 0 where
@@ -54,7 +54,7 @@ pub record IsTrial (f : Fields) (s : ℕ) (births : List ℕ) (cuts : List CutNo
 pub record IsCandidate (f : Fields) (s : ℕ) (births : List ℕ) (cuts : List CutNote) (floor : ℕ) : Type 0 where
   pub low : f.floor ≤ floor
   pub high : floor ≤ f.versions.now
-  pub least : (g : ℕ) → f.floor ≤ g → g < floor → fits_at f s births cuts g ≡ false
+  pub least : (g : ℕ) → f.floor ≤ g → g < floor → fits_at_floor f s births cuts g ≡ false
   pub alone : f.options.max ≡ false → floor ≡ f.floor
 
 -- From a floor on up to another one no more versions are due.
@@ -71,21 +71,21 @@ pub record IsNextFloor (f : Fields) (trial : Trial) (next : ℕ) : Type 0 where
 
 -- A promise fits at a floor, or no more versions are due at a later one.
 abbrev pub IsLastTrial : Fields → Trial → Type 0
-IsLastTrial f trial = nat_le trial.wanted trial.free ≡ false → IsSameUpTo f trial.floor (λ g. g ≤ last_floor f)
+IsLastTrial f trial = nat_le trial.wanted trial.free ≡ false → IsSameUpTo f trial.floor (λ g. g ≤ last_tried_floor f)
 
 -- A promise is granted at a floor, which is the least one at which it fits.
 pub record IsGranted (f : Fields) (s : ℕ) (births : List ℕ) (cuts : List CutNote) (grant : Grant) : Type 0 where
   pub candidate : IsCandidate f s births cuts grant.floor
-  pub fits : fits_at f s births cuts grant.floor ≡ true
+  pub fits : fits_at_floor f s births cuts grant.floor ≡ true
   pub wanted : grant.wanted ≡ wanted_at f s births cuts grant.floor
   pub due : grant.due ≡ due_pairs f.notes grant.floor
   pub found : grant.found ≡ births_found (reached_at f s births grant.floor) cuts
 
 -- A promise fits at no floor, and is refused with the numbers of the last one.
 pub record IsRefused (f : Fields) (s : ℕ) (births : List ℕ) (cuts : List CutNote) (wanted free : ℕ) : Type 0 where
-  pub none : (g : ℕ) → f.floor ≤ g → g ≤ last_floor f → fits_at f s births cuts g ≡ false
-  pub wanted_there : wanted ≡ wanted_at f s births cuts (last_floor f)
-  pub free_there : free ≡ free_at f s births (last_floor f)
+  pub none : (g : ℕ) → f.floor ≤ g → g ≤ last_tried_floor f → fits_at_floor f s births cuts g ≡ false
+  pub wanted_there : wanted ≡ wanted_at f s births cuts (last_tried_floor f)
+  pub free_there : free ≡ free_at f s births (last_tried_floor f)
 
 -- What is decided on a promise.
 abbrev pub IsDecided : Fields → ℕ → List ℕ → List CutNote → Decision → Type 0
