@@ -1,13 +1,14 @@
 //! New contents that are placed and held.
 ghost use Rattle.std.specs.Prelude.{◌≡◌, ◌+◌, ◌≤◌, [], length, true, All};
-ghost use Rattle.sf_stock.specs.Stocks.{IsSound, is_stocked, with_left_parked};
+ghost use Rattle.sf_types.specs.declared.holder.Holder.TheVariants.{Promise};
+ghost use Rattle.sf_stock.specs.Stocks.{IsSound, is_stocked, with_holder, with_left_parked};
 ghost use Rattle.sf_store_half.specs.Inside.Plans.{AreNewPlaces, items_of, published_stock, with_all_new};
 
 use sf_stock::{NewContent, Stock};
 use sf_types::{Births, Holder};
 
-// Places new contents, one after the other, within the room.
-fn place_all(stock: &mut Stock, news: Vec<NewContent>)
+/// Places new contents, one after the other, within the room.
+pub fn place_all(stock: &mut Stock, news: Vec<NewContent>)
     requires places { AreNewPlaces stock.old.held news.items }
     requires room { items_of news.items ≤ stock.old.spare }
     ensures held { stock.new.held ≡ with_all_new stock.old.held news.items }
@@ -31,6 +32,17 @@ pub fn publish_births(stock: &mut Stock, session: u16, news: Vec<NewContent>, bi
     let _sound = stock.next_birth();
     place_all(stock, news);
     stock.hold(Holder::Session(session), births);
+    stock.drop_holder(&Holder::Promise(session));
+    let _between = stock.next_birth();
+    stock.park_left();
+}
+
+/// What a promise of a session held is let go, and what nobody holds any more is parked, also of what left before. It takes no
+/// memory.
+pub fn end_hold(stock: &mut Stock, session: u16)
+    ensures between { IsSound (with_holder stock.old.held (Promise session) []) }
+    ensures held { stock.new.held ≡ with_left_parked (with_holder stock.old.held (Promise session) []) }
+{
     stock.drop_holder(&Holder::Promise(session));
     let _between = stock.next_birth();
     stock.park_left();

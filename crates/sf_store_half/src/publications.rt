@@ -1,7 +1,8 @@
 //! Publications of calls to which blocks were promised.
-ghost use Rattle.std.specs.Prelude.{◌≡◌, ◌-◌, ◌≤◌, None, ◌<◌, ◌^◌, length, slice_get, slice_set, sum_by, unwrap_or, All, IfOk, OnOk, OnErr};
+ghost use Rattle.std.specs.Prelude.{◌≡◌, ◌+◌, ◌-◌, ◌≤◌, None, ◌<◌, ◌^◌, length, slice_get, slice_set, sum_by, unwrap_or, All, IfOk, OnOk, OnErr};
 ghost use Rattle.sf_types.specs.Space.BlockRuns.{blocks_in};
 ghost use Rattle.sf_types.specs.Space.Cuts.{settle_value};
+ghost use Rattle.sf_types.specs.Space.Cuts.{settle};
 ghost use Rattle.sf_types.specs.Halves.Asks.{Half, new_kept};
 ghost use Rattle.sf_types.specs.Halves.Asks as rule;
 ghost use Rattle.sf_types.specs.Halves.Flushes.{half_publish};
@@ -12,16 +13,18 @@ ghost use Rattle.sf_store_half.specs.Inside.Answered.{IsPublished};
 ghost use Rattle.sf_store_half.specs.Inside.Fields.{promised_blocks};
 ghost use Rattle.sf_store_half.specs.Inside.Plans.{IsPlan, planned_all, planned_births, planned_by, unplanned};
 
-use crate::placing::publish_births;
+use crate::commits::{make_commit, plan_commit};
+use crate::placing::{end_hold, place_all, publish_births};
 use crate::plans::{Plan, plan_cuts};
 use crate::row_answers::with_births;
-use crate::session_fields::{Promised, SessionField, take_promise};
+use crate::session_fields::{Promised, SessionField, set_field, take_promise};
+use crate::settled_changes::settle_changes;
 use crate::store_half::{Published, StoreHalf};
 use sf_chunk_map::Map;
 use sf_free_commit::Committed;
 use sf_stock::Stock;
 use sf_types::{Mem, Options, OutOfMemory, Runs, TryCopy};
-use sf_versions::{Answer, Flush, Part};
+use sf_versions::{Answer, ChangeList, Flush, Part};
 use sf_write_gather::settle;
 use std::alloc::Global;
 
@@ -76,10 +79,45 @@ fn plan_value(
     Ok((plan, settled))
 }
 
+// A plan of the cuts of changes in these blocks, and the changes that are settled by it.
+fn plan_changes(
+    alloc: Global,
+    stock: &Stock,
+    options: &Options,
+    flush: &Flush,
+    runs: &Runs,
+    changes: &ChangeList,
+) -> Mem<(Plan, ChangeList)>
+    requires prints { HasPrints flush.now }
+    requires changes { request_of_part flush.now.ask.part ≡ rule.Commits changes.now }
+    requires cuts { HasCutsOfRequest options.now flush.now }
+    requires below { All (λ block. block < 2 ^ 32) (blocks_in runs.now.held) }
+    requires few { length (blocks_in runs.now.held) < 2 ^ 64 }
+    ensures planned { IfOk result (λ made. planned_by stock.now.held made.0 ≡ planned_all (unplanned stock.now.held (blocks_in runs.now.held)) (cuts_in options.now flush.now)) }
+    ensures plan { IfOk result (λ made. IsPlan stock.now.held made.0) }
+    ensures settled { IfOk result (λ made. made.1 ≡ settle changes.now (planned_births (unplanned stock.now.held (blocks_in runs.now.held)) (cuts_in options.now flush.now))) }
+{
+    let (plan, chunks) = plan_cuts(alloc, stock, options, flush, runs)?;
+    let settled = settle_changes(alloc, changes, &chunks)?;
+    Ok((plan, settled))
+}
+
+// The room for new contents, and for the births of versions and of a session.
+fn room_of(items: u64, versions: u64, session: u64) -> Mem<u64>
+    ensures { IfOk result (λ room. room ≡ items + versions + session) }
+{
+    let Some(births) = items.checked_add(versions) else {
+        return Err(OutOfMemory);
+    };
+    match births.checked_add(session) {
+        Some(room) => Ok(room),
+        None => Err(OutOfMemory),
+    }
+}
+
 impl StoreHalf {
     /// Publishes a call to which blocks were promised: its new contents take these blocks in the order of the cuts. After want of
     /// memory nothing has changed.
-    /// A Commit is not there yet: it always wants memory.
     pub fn publish(&mut self, session: u16, runs: Runs, flush: Flush) -> Mem<Published>
         requires session { HasField self.old session }
         requires births { BringsStocked self.old flush.ask }
@@ -112,7 +150,7 @@ impl StoreHalf {
     {
         match &flush.ask.part {
             Part::Settle(value) => self.publish_value(session, runs, flush, value),
-            Part::Commit(_) => Err(OutOfMemory),
+            Part::Commit(changes) => self.publish_commit(session, runs, flush, changes),
             _ => self.publish_nothing(runs),
         }
     }
@@ -168,6 +206,72 @@ impl StoreHalf {
         publish_births(&mut self.stock, session, news, births);
         Ok(Published {
             answer: Answer::Value { map, twin },
+            unused,
+        })
+    }
+
+    // Publishes a commit of these changes.
+    fn publish_commit(
+        &mut self,
+        session: u16,
+        runs: &Runs,
+        flush: &Flush,
+        changes: &ChangeList,
+    ) -> Mem<Published>
+        requires session { HasField self.old session }
+        requires births { BringsStocked self.old flush.now.ask }
+        requires prints { HasPrints flush.now }
+        requires changes { request_of_part flush.now.ask.part ≡ rule.Commits changes.now }
+        requires cuts { HasCutsOfRequest self.old.options flush.now }
+        requires placeable { ArePlaceable self.old (blocks_in runs.now.held) }
+        requires enough { AreEnough self.old (cuts_in self.old.options flush.now) (length (blocks_in runs.now.held)) }
+        ensures { IsPublished self.old self.new (λ h. half_publish h session (rule.Commits changes.now) (cuts_in self.old.options flush.now) flush.now.ask.kept) (blocks_in runs.now.held) result }
+    {
+        let alloc = *self.sessions.allocator();
+        let _sound = self.stock.next_birth();
+        let has_ended = self.has_ended(session);
+        let (plan, settled) = plan_changes(
+            alloc,
+            &self.stock,
+            &self.options,
+            flush,
+            runs,
+            changes,
+        )?;
+        let kept = flush.ask.kept.copy()?;
+        let (versions, notes) = (&self.versions, &self.notes);
+        let commit = plan_commit(alloc, &self.options, versions, notes, self.floor, &settled)?;
+        let Plan {
+            firsts,
+            next: _,
+            news,
+            items,
+            left,
+        } = plan;
+        drop(firsts);
+        let unused = rest_of(alloc, left)?;
+        let room = room_of(items, commit.births, kept.as_slice().len() as u64)?;
+        self.versions.make_room(settled.len() as u64)?;
+        self.notes.make_room(commit.displaced.len() as u64)?;
+        self.stock.make_room(room)?;
+        let (number, floor) = (commit.number, commit.floor);
+        place_all(&mut self.stock, news);
+        make_commit(
+            &mut self.versions,
+            &mut self.notes,
+            &mut self.stock,
+            settled,
+            commit,
+            session,
+            kept,
+        );
+        end_hold(&mut self.stock, session);
+        self.floor = floor;
+        end_promise(&mut self.sessions, &mut self.promised, session);
+        set_field(&mut self.sessions, session, false, has_ended);
+        self.locks.release_all(session);
+        Ok(Published {
+            answer: Answer::Committed(number),
             unused,
         })
     }
