@@ -55,7 +55,7 @@ between_with : (before s : StockView) (number : ℕ) (xs : List RowBirths) → I
 between_with before s number [] between = between
 between_with before s number (x ∷ xs) between = between_with before (with_holder s (holder.Version x.row number) x.births) number xs (between_held before s (with_births s.holdings (holder.Version x.row number) x.births) between)
 
-same_holdings_with : (s : StockView) (number : ℕ) (xs : List RowBirths) → (stock_with s number xs).holdings ≡ holdings_with s.holdings number xs
+pub same_holdings_with : (s : StockView) (number : ℕ) (xs : List RowBirths) → (stock_with s number xs).holdings ≡ holdings_with s.holdings number xs
 same_holdings_with s number [] = refl
 same_holdings_with s number (x ∷ xs) = same_holdings_with (with_holder s (holder.Version x.row number) x.births) number xs
 
@@ -86,7 +86,7 @@ nothing_there [] = refl
 nothing_there (c ∷ commits) = nothing_there commits
 
 -- no version holds anything that a commit to come will make
-new_version : (h : Half) (row : List ℕ) (number : ℕ) → number ≡ length h.commits + 1 → held_in h (holder.Version row number) ≡ []
+pub new_version : (h : Half) (row : List ℕ) (number : ℕ) → number ≡ length h.commits + 1 → held_in h (holder.Version row number) ≡ []
 new_version h row number is =
     let at : number - 1 ≡ length h.commits = omega (arith, is) in
     ap (λ i. cond (nat_le 1 number && is_kept (table_of_half h) row number) (option_map_or births_in (value_or_absent (get (slice_index_or h.commits i []) row)) []) []) at
@@ -137,7 +137,7 @@ all_stay before after more (x ∷ xs) =
     stays false is = ap (λ u. not (u && not (is_live after x.birth))) is
 
 -- one after the other, versions of other rows hold nothing yet, and no birth leaves
-can_hold_each : (number : ℕ) (c : Rows) → IsRisingMap c → (s : StockView) → Each (λ e. held_by s.holdings (holder.Version e.0 number) ≡ []) c → (kept : List ℕ)
+pub can_hold_each : (number : ℕ) (c : Rows) → IsRisingMap c → (s : StockView) → Each (λ e. held_by s.holdings (holder.Version e.0 number) ≡ []) c → (kept : List ℕ)
     → All (λ b. is_stocked s.stocked b ≡ true) kept → Each (λ x. All (λ b. is_stocked s.stocked b ≡ true) x.births) (row_births c) → CanHold s number (row_births c) kept
 can_hold_each number [] rising s nothing kept own named = own
 can_hold_each number (e ∷ es) rising s nothing kept own named =
@@ -218,10 +218,10 @@ module _ (f : Fields) (h : Half) (s : ℕ) (births : List ℕ) (c : Rows) (keeps
 
   module _ (is : is_session h s ≡ true) where
     -- What is kept of the session, and the half then.
-    abbrev kept_then : Kept
+    abbrev pub kept_then : Kept
     kept_then = record (kept_at h s) { births = births; is_open = false }
 
-    abbrev half_then : Half
+    abbrev pub half_then : Half
     half_then = record (with_kept h s kept_then) { commits = h.commits ++ c ∷ []; floor = floor_then f h c keeps reached rising; locks = without_locks h.locks s }
 
     -- who is no version holds what it holds where the session alone holds something else
@@ -234,7 +234,7 @@ module _ (f : Fields) (h : Half) (s : ℕ) (births : List ℕ) (c : Rows) (keeps
         ∙ sym (held_after f.stock.holdings (holder.Session s) births x)
         ∙ settled_held f h s kept_then keeps is refl x
 
-    commit_held : (x : Holder) → held_by stock_then.holdings x ≡ held_in half_then x
+    pub commit_held : (x : Holder) → held_by stock_then.holdings x ≡ held_in half_then x
     commit_held x =
         ap (λ m. held_by m x) holdings_is
         ∙ held_after_commit f h c keeps reached rising half_then refl refl (with_births (holdings_then f h c keeps reached rising) (holder.Session s) births)

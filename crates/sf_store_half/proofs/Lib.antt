@@ -18,6 +18,7 @@ pub mod FreeLemmas
 pub mod GivenUpLemmas
 pub mod GrantLemmas
 pub mod GrownLemmas
+pub mod GrownStockLemmas
 pub mod HalfPromiseLemmas
 pub mod HasBirthLemmas
 pub mod HeldLemmas
@@ -31,6 +32,7 @@ pub mod OnceLemmas
 pub mod PlaceableLemmas
 pub mod PlanLemmas
 pub mod PlannedCutLemmas
+pub mod PublishedCommitLemmas
 pub mod PublishedLemmas
 pub mod RaisedKeepsLemmas
 pub mod RaisedLemmas
@@ -39,6 +41,7 @@ pub mod RowAnswerLemmas
 pub mod SetLemmas
 pub mod SettledChangeLemmas
 pub mod SettledLemmas
+pub mod SettledRowLemmas
 pub mod StockLemmas
 pub mod StockReachLemmas
 pub mod TrialLemmas

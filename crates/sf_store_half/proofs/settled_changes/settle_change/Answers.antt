@@ -1,7 +1,5 @@
-use Rattle.std.proofs.Common.{◌≡◌, ℕ, List, [], ◌∷◌, drop, Option, Some, sym, ap, ◌∙◌}
+use Rattle.std.proofs.Common.{ℕ, List, [], ◌∷◌, drop, Option, Some, sym, ap, ◌∙◌}
 use Rattle.sf_types.specs.Values.Marks.{Value}
-use Rattle.sf_types.specs.Space.Cuts.{settle}
-use Rattle.sf_chunk_map.specs.Contents.{StoredContent}
 use Rattle.sf_store_half.proofs.SettledChangeLemmas.{change_bytes, change_count, change_settled}
 use Rattle.sf_store_half.proofs.settled_changes.settle_change.Goals as goal
 
