@@ -20,13 +20,14 @@ impl Model for BirthUnion {
     ghost view = { λ union. union.births.items };
 }
 
-// Sorts births, and leaves each of them once. It takes no memory.
-fn sort(births: &mut Vec<u128>)
-    ensures births { births.new.items ≡ rising_births births.old.items }
-    ensures rising { IsRising births.new.items }
+// Sorts births, and leaves each of them once. Lists that rise one behind the other are merged.
+fn sort(births: &mut Vec<u128>) -> Mem<()>
+    ensures births { OnOk result (births.new.items ≡ rising_births births.old.items) }
+    ensures rising { OnOk result (IsRising births.new.items) }
 {
-    births.sort_unstable();
+    births.sort()?;
     births.dedup();
+    Ok(())
 }
 
 // The list of births that rise.
@@ -65,7 +66,7 @@ impl BirthUnion {
         ensures { IfOk result (λ births. births ≡ rising_births self) }
     {
         let BirthUnion { mut births } = self;
-        sort(&mut births);
+        sort(&mut births)?;
         listed(*births.allocator(), births.as_slice())
     }
 }

@@ -14,6 +14,7 @@ use Rattle.sf_types.proofs.BoolLemmas.{none-of-both, or-false, or-regroup}
 use Rattle.sf_types.proofs.RunLemmas.{no_run, of-run, offset-of-block}
 use Rattle.sf_block_space.specs.Free.{AreFreeRuns, AreOut, FreeSpace, has_block}
 use Rattle.sf_block_space.specs.Inside.{TakesBack}
+use Rattle.sf_block_space.proofs.FilledRunLemmas.{filled_put}
 use Rattle.sf_block_space.proofs.MemberLemmas.{has-append, range-once}
 
 -- a block that is named once isn't in the runs before
@@ -65,7 +66,7 @@ takes-more old space next given k less first then =
             ∙ ap (λ x. has_block old.held.runs block || x) (sym (has-append before (run ∷ []) block));
         count = omega (arith, first.blocks.count, then.blocks.count, ap length both, length-append (blocks_in before) (blocks_in (run ∷ [])));
       };
-      more = omega (arith, first.more, then.more, length-append before (run ∷ []));
+      more = omega (arith, first.more, then.more, filled_put before run);
       room = omega (arith, first.room, then.room);
     })
 

@@ -1,4 +1,5 @@
 pub mod ChoiceLemmas
+pub mod FilledRunLemmas
 pub mod GapLemmas
 pub mod GivenLemmas
 pub mod GrantLemmas

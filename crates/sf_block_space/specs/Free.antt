@@ -1,5 +1,5 @@
 -- The free blocks of a store, as runs (our own, after VLDB 2008).
-use Rattle.std.specs.Prelude.{◌≡◌, ℕ, ◌+◌, ◌≤◌, ◌<◌, List, [], ◌∷◌, Bool, false, ◌||◌, ◌&&◌, ◌≢◌, length, All, AllPairs, nat_eq}
+use Rattle.std.specs.Prelude.{◌≡◌, ℕ, ◌+◌, ◌≤◌, ◌<◌, List, [], ◌∷◌, Bool, false, ◌||◌, ◌&&◌, ◌≢◌, length, min, sum_by, All, AllPairs, nat_eq}
 use Rattle.std.specs.List.{list_any}
 use Rattle.sf_types.specs.declared.run.Run.{Run}
 use Rattle.sf_types.specs.Space.BlockRuns.{blocks_in}
@@ -30,6 +30,10 @@ pub record AreOut (space : FreeSpace) (blocks : List ℕ) : Type 0 where
   pub below : All (λ block. block < space.capacity) blocks
   pub apart : All (λ block. has_block space.runs block ≡ false) blocks
   pub once : AllPairs (λ block other. block ≢ other) blocks
+
+-- How many of some runs have a block.
+abbrev pub filled_run_count : List Run → ℕ
+filled_run_count runs = sum_by (λ run. min 1 run.blocks) runs
 
 -- No block stands in both.
 abbrev pub AreApart : List Run → List Run → Type 0

@@ -4,7 +4,7 @@ use Rattle.std.specs.List.{remove}
 use Rattle.sf_types.specs.declared.run.Run.{Run}
 use Rattle.sf_types.specs.Space.BlockRuns.{blocks_in, front_of, rest_of}
 use Rattle.sf_types.specs.Rooms.{Roomy}
-use Rattle.sf_block_space.specs.Free.{FreeSpace, AreFreeRuns, AreOut, Gains}
+use Rattle.sf_block_space.specs.Free.{FreeSpace, AreFreeRuns, AreOut, Gains, filled_run_count}
 
 -- First fit: the run at this offset has at least n blocks, and each run before it has fewer.
 pub record IsFirstFit (runs : List Run) (n at : ℕ) (run : Run) : Type 0 where
@@ -68,5 +68,5 @@ pub record TakesBack (before after : Roomy FreeSpace) (runs : List Run) : Type 0
   pub capacity : after.held.capacity ≡ before.held.capacity
   pub order : AreFreeRuns after.held.capacity after.held.runs
   pub blocks : Gains before.held.runs after.held.runs runs
-  pub more : length after.held.runs ≤ length before.held.runs + length runs
+  pub more : length after.held.runs ≤ length before.held.runs + filled_run_count runs
   pub room : after.spare + length after.held.runs ≡ before.spare + length before.held.runs

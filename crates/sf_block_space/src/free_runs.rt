@@ -4,7 +4,7 @@ ghost use Rattle.std.specs.List.{range_with_len};
 ghost use Rattle.sf_types.specs.Space.BlockRuns.{blocks_in};
 ghost use Rattle.sf_types.specs.Space.Grants.{granted_runs};
 ghost use Rattle.sf_types.specs.Rooms.{MakesRoom, GrowsWithin};
-ghost use Rattle.sf_block_space.specs.Free.{AreFreeRuns, AreOut, Gains};
+ghost use Rattle.sf_block_space.specs.Free.{AreFreeRuns, AreOut, Gains, filled_run_count};
 
 use crate::maximal_runs::MaximalRuns;
 use sf_types::{Mem, Runs};
@@ -96,12 +96,26 @@ impl FreeRuns {
         ensures room { GrowsWithin self.old self.new (length runs.now.held) (length self.new.held.runs - length self.old.held.runs) result }
     {
         self.runs.make_room(runs.len())?;
+        self.give_back_within(runs);
+        Ok(())
+    }
+
+    /// Does `give_back` where there is room for each run that has a block. It takes no memory.
+    pub fn give_back_within(&mut self, runs: &Runs)
+        requires out { AreOut self.old.held (blocks_in runs.now.held) }
+        requires room { filled_run_count runs.now.held ≤ self.old.spare }
+        ensures blocks { Gains self.old.held.runs self.new.held.runs runs.now.held }
+        ensures order { AreFreeRuns self.new.held.capacity self.new.held.runs }
+        ensures capacity { self.new.held.capacity ≡ self.old.held.capacity }
+        ensures spare { self.new.spare + length self.new.held.runs ≡ self.old.spare + length self.old.held.runs }
+    {
+        // There are no more blocks than a `u32` counts.
+        let _capacity = self.runs.capacity();
         for run in runs.as_slice() {
             if run.blocks > 0 {
                 self.runs.put(*run);
                 self.free += u64::from(run.blocks);
             }
         }
-        Ok(())
     }
 }

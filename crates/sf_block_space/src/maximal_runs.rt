@@ -59,6 +59,14 @@ impl MaximalRuns {
         Runs::new(*self.runs.allocator())
     }
 
+    // The number of blocks below which all runs end.
+    pub fn capacity(&self) -> u32
+        ensures capacity { result ≡ self.now.held.capacity }
+        ensures order { AreFreeRuns self.now.held.capacity self.now.held.runs }
+    {
+        self.capacity
+    }
+
     // Makes room for so many runs more.
     pub fn make_room(&mut self, runs: usize) -> Mem<()>
         ensures room { MakesRoom self.old self.new runs result }

@@ -1,5 +1,6 @@
 //! Publications of calls to which blocks were promised.
 ghost use Rattle.std.specs.Prelude.{◌≡◌, [], ◌∷◌, length, IfOk, OnOk, OnErr};
+ghost use Rattle.sf_types.specs.declared.call.Call.TheVariants as call;
 ghost use Rattle.sf_types.specs.declared.history.Kind.TheVariants as kind;
 ghost use Rattle.sf_types.specs.Space.BlockRuns.{blocks_in};
 ghost use Rattle.sf_types.specs.Space.Cuts.{cuts};
@@ -12,24 +13,33 @@ ghost use Rattle.sf_versions.specs.Asks.{IsAnswer, IsFlush};
 ghost use Rattle.sf_store_half.specs.HalfMoves.{HasPrints};
 ghost use Rattle.sf_book.specs.Books.{table_of};
 ghost use Rattle.sf_book.specs.Moves.{AreAway, IsMoved, Stands};
+ghost use Rattle.sf_book.specs.Inside.Bodies.{with_call};
 
 use crate::book::Book;
 use crate::entries::{make_room, push_entry};
 use sf_store_half::Published;
-use sf_types::{Call, Kind, Mem, Runs, TryCopy};
+use sf_types::{Call, Kind, Mem, Runs};
 use sf_versions::Flush;
+use std::mem;
+
+// Takes the call out of a flush, in which a Commit then stands for it.
+fn take_call(flush: &mut Flush) -> Call
+    ensures call { result ≡ flush.old.ask.call }
+    ensures flush { flush.new ≡ with_call flush.old call.Commit }
+{
+    mem::replace(&mut flush.ask.call, Call::Commit)
+}
 
 impl Book {
-    // The answer to a call that is published, of which the history gets another copy.
+    // The answer to a call that is published, by its flush, from which it was taken. It goes into the history.
     fn publish_for(&mut self, session: u16, runs: Runs, flush: Flush, call: Call) -> Mem<Published>
-        requires promise { Stands (table_of self.old) session flush.ask.call (length (blocks_in runs.held)) }
-        requires flush { IsFlush self.old.options (own_of (table_of self.old) session) flush }
+        requires promise { Stands (table_of self.old) session call (length (blocks_in runs.held)) }
+        requires flush { IsFlush self.old.options (own_of (table_of self.old) session) (with_call flush call) }
         requires prints { HasPrints flush }
         requires away { AreAway self.old (blocks_in runs.held) }
-        requires call { call ≡ flush.ask.call }
-        ensures moved { OnOk result (IsMoved self.old self.new (entry_of session kind.Call flush.ask.call ∷ []) (blocks_in runs.held)) }
-        ensures answer { IfOk result (λ published. IsAnswer published.answer (half_publish (half_of (table_of self.old)) session (request_of (own_of (table_of self.old) session) flush.ask.call)
-            (cuts self.old.options (own_flush (own_of (table_of self.old) session) flush.ask.call)) (kept_births (own_of (table_of self.old) session) flush.ask.call)).1) }
+        ensures moved { OnOk result (IsMoved self.old self.new (entry_of session kind.Call call ∷ []) (blocks_in runs.held)) }
+        ensures answer { IfOk result (λ published. IsAnswer published.answer (half_publish (half_of (table_of self.old)) session (request_of (own_of (table_of self.old) session) call)
+            (cuts self.old.options (own_flush (own_of (table_of self.old) session) call)) (kept_births (own_of (table_of self.old) session) call)).1) }
         ensures unused { IfOk result (λ published. blocks_in published.unused.held ≡ unused_blocks (table_of self.old) (table_of self.new) (blocks_in runs.held)) }
         ensures err { OnErr result (self.new ≡ self.old) }
     {
@@ -66,13 +76,8 @@ impl Book {
         ensures unused { IfOk result (λ published. blocks_in published.unused.held ≡ unused_blocks (table_of self.old) (table_of self.new) (blocks_in runs.held)) }
         ensures err { OnErr result (self.new ≡ self.old) }
     {
-        match flush.ask.call.copy() {
-            Ok(call) => self.publish_for(session, runs, flush, call),
-            Err(error) => {
-                drop(runs);
-                drop(flush);
-                Err(error)
-            }
-        }
+        let mut rest = flush;
+        let call = take_call(&mut rest);
+        self.publish_for(session, runs, rest, call)
     }
 }

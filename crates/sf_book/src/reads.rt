@@ -1,8 +1,8 @@
 //! What a Book tells.
-ghost use Rattle.std.specs.Prelude.{◌≡◌, length, map, slice_get, IfOk};
+ghost use Rattle.std.specs.Prelude.{◌≡◌, length, map, slice_get, is_some, IfOk};
 ghost use Rattle.std.specs.Map.Iter.{deref_pair};
 ghost use Rattle.std.specs.Option.{option_map};
-ghost use Rattle.std.specs.List.{list_all};
+ghost use Rattle.std.specs.List.{list_all, list_any};
 ghost use Rattle.sf_types.specs.Orders.RowEnds.{row_ends_of};
 ghost use Rattle.sf_types.specs.Table.Versions.{present_rows};
 ghost use Rattle.sf_types.specs.Space.Use.{free_of};
@@ -28,6 +28,20 @@ impl Book {
         ensures { result ≡ free_of (table_of self.now) }
     {
         self.half.free()
+    }
+
+    /// The number of parked blocks.
+    pub fn parked(&self) -> u64
+        ensures { result ≡ length self.now.parked }
+    {
+        self.half.parked()
+    }
+
+    /// Whether a promise stands.
+    pub fn has_promise(&self) -> bool
+        ensures { result ≡ list_any (λ session. is_some session.promise) (table_of self.now).sessions }
+    {
+        self.half.has_promise()
     }
 
     /// Whether all sessions have ended.

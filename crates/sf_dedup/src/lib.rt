@@ -7,4 +7,4 @@ mod printer;
 
 pub use index::Index;
 pub use print::{Print, PrintList, print_of};
-pub use printer::{PlainPrinter, Printer};
+pub use printer::{PlainPrinter, Printer, prints_in_turn};

@@ -24,8 +24,8 @@ pub trait Printer {
 #[derive(Clone, Copy, Debug)]
 pub struct PlainPrinter;
 
-// The print of each content, in their order.
-fn prints_in_turn(alloc: Global, contents: &BlobList) -> Mem<PrintList>
+/// The print of each content, in their order. After want of memory nothing is left of them.
+pub fn prints_in_turn(alloc: Global, contents: &BlobList) -> Mem<PrintList>
     ensures { IfOk result (λ prints. prints ≡ map print_of contents.now) }
 {
     let mut prints = List::new(alloc);

@@ -128,11 +128,11 @@ turns_still opening r x y rest leaves =
     ∙ ap (λ (blocks : List ℕ). 3 * length rest - done_turns (session_of x.table r).promise (length blocks)) leaves.collected
 
 -- entries of a session
-own_entries : (s : ℕ) (cs : List Call) → Each (λ e. e.token.session ≡ s) (call_entries s cs)
+pub own_entries : (s : ℕ) (cs : List Call) → Each (λ e. e.token.session ≡ s) (call_entries s cs)
 own_entries s [] = tt
 own_entries s (c ∷ cs) = (refl, own_entries s cs)
 
-behind_entries : (s : ℕ) (cs : List Call) (k : Kind) (c : Call) → Each (λ e. e.token.session ≡ s) (call_entries s cs ++ entry_of s k c ∷ [])
+pub behind_entries : (s : ℕ) (cs : List Call) (k : Kind) (c : Call) → Each (λ e. e.token.session ≡ s) (call_entries s cs ++ entry_of s k c ∷ [])
 behind_entries s cs k c = each-append (λ e. e.token.session ≡ s) (call_entries s cs) (entry_of s k c ∷ []) (own_entries s cs) (refl, tt)
 
 apart_entries : (r s : ℕ) (es : List Entry) → (r ≡ s → ⊥) → Each (λ e. e.token.session ≡ s) es → Each (λ e. r ≡ e.token.session → ⊥) es

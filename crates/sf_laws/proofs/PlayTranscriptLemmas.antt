@@ -26,13 +26,13 @@ use Rattle.sf_laws.proofs.RoundLemmas.{IsOver, ended_whole}
 use Rattle.sf_laws.proofs.SpaceLemmas.{is_safe}
 use Rattle.sf_laws.proofs.StageLemmas.{placed_count}
 
-written_blocks : (t : Table) (places : List Placed) → map birth_blocks (map (written_place t) places) ≡ places
+pub written_blocks : (t : Table) (places : List Placed) → map birth_blocks (map (written_place t) places) ≡ places
 written_blocks t [] = refl
 written_blocks t (x ∷ places) =
     ap (λ (blocks : List ℕ). record { birth = x.birth; blocks = blocks } ∷ map birth_blocks (map (written_place t) places)) (blocks-maximal x.blocks)
     ∙ ap (λ (xs : List Placed). x ∷ xs) (written_blocks t places)
 
-written_count : (t : Table) (places : List Placed) → placed_block_count (map (written_place t) places) ≡ length (all_blocks places)
+pub written_count : (t : Table) (places : List Placed) → placed_block_count (map (written_place t) places) ≡ length (all_blocks places)
 written_count t [] = refl
 written_count t (x ∷ places) =
     let cons = sum_by-cons (λ (place : Place). length (blocks_in place.runs)) (written_place t x) (map (written_place t) places) in

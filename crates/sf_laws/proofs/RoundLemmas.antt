@@ -106,7 +106,7 @@ pub record IsOver (options : Options) (calls : List (List Call)) (p : Playing) :
   pub plays : Plays options calls p
   pub none : (s : ℕ) → 1 ≤ s → s ≤ length calls → calls_left p s ≡ []
 
-no_calls : (x : Stage) (s : ℕ) (rest : List Call) → turns_left x s rest ≤ 0 → rest ≡ []
+pub no_calls : (x : Stage) (s : ℕ) (rest : List Call) → turns_left x s rest ≤ 0 → rest ≡ []
 no_calls x s [] le = refl
 no_calls x s (c ∷ rest) le =
     let few = few_done (session_of x.table s).promise (length (collected_by x.space s)) in

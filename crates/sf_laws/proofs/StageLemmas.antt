@@ -165,7 +165,7 @@ in_range : (i n : ℕ) → i < n → IsTrue (nat_le 1 (i + 1) && nat_le (i + 1) 
 in_range i n lt = grind (arith, lt)
 
 -- a promise whose blocks aren't collected has them among the free and the parked ones
-room_for : (t : Table) (s : ℕ) (q : Promise) (space : Space) → IsTrue (has_session t s) → IsWithinCapacity t → HasBlocks t space → (session_of t s).promise ≡ Some q → collected_by space s ≡ [] → q.blocks ≤ length space.free + length space.parked
+pub room_for : (t : Table) (s : ℕ) (q : Promise) (space : Space) → IsTrue (has_session t s) → IsWithinCapacity t → HasBlocks t space → (session_of t s).promise ≡ Some q → collected_by space s ≡ [] → q.blocks ≤ length space.free + length space.parked
 room_for t s q space has_s inv has is none =
     let count = has.sums (λ x. 1) in
     let places = count_length (all_blocks space.places) in

@@ -24,13 +24,13 @@ use Rattle.sf_types.specs.Calls.WritingCalls.{written_name}
 use Rattle.sf_types.specs.Space.Reach.{values_in, session_values, session_births}
 use Rattle.sf_types.specs.Halves.Own.{Own, own_row, is_event}
 use Rattle.sf_types.specs.Halves.Asks.{kept_births}
-use Rattle.sf_laws.proofs.EachLemmas.{each_itself, each-append, each_left}
+use Rattle.sf_laws.proofs.EachLemmas.{each_itself, each-append, each_left, each_right}
 use Rattle.sf_laws.proofs.HeldLemmas.{OfOption}
 use Rattle.sf_laws.proofs.ReachLemmas.{OfBirth, each-rising, each_from_rising, each-births_in, each-session_births, each_from_session_births}
 use Rattle.sf_laws.proofs.SessionBirthLemmas.{same_rising, each_put_from, each_of_put, births_put}
 use Rattle.sf_laws.proofs.SumLemmas.{rising_rises}
 use Rattle.sf_session_values.specs.ValueBirths.{rows_beside, locators_beside, births_of_rows, births_of_locators}
-use Rattle.sf_own_part.specs.Inside.PartBirths.{part_beside, part_after_commit, births_of_savepoints}
+use Rattle.sf_own_part.specs.Inside.PartBirths.{part_beside, part_after_commit, births_kept_by, births_of_savepoints}
 
 by_savepoint : (savepoints : List Savepoint) → flat_map births_in (flat_map (λ x. values_in x.working) savepoints) ≡ births_of_savepoints savepoints
 by_savepoint [] = refl
@@ -48,22 +48,56 @@ births_by_parts p =
     ∙ ap (λ bs. bs ++ flat_map births_in (flat_map (λ x. values_in x.working) p.savepoints)) (flat_map-append births_in rows locators)
     ∙ ap (λ bs. births_of_rows p.working ++ births_of_locators p.locators ++ bs) (by_savepoint p.savepoints))
 
+-- the births that savepoints keep are those of their working values
+each_kept : (P : ℕ → Type 0) (savepoints : List Savepoint) → Each P (births_of_savepoints savepoints) → Each P (births_kept_by savepoints)
+each_kept P [] all = tt
+each_kept P (x ∷ savepoints) all =
+    let own = births_of_rows x.working in
+    let rest = births_of_savepoints savepoints in
+    each-append P (rising_births own) (births_kept_by savepoints) (each-rising P own (each_left P own rest all)) (each_kept P savepoints (each_right P own rest all))
+
+each_from_kept : (P : ℕ → Type 0) (savepoints : List Savepoint) → Each P (births_kept_by savepoints) → Each P (births_of_savepoints savepoints)
+each_from_kept P [] all = tt
+each_from_kept P (x ∷ savepoints) all =
+    let own = births_of_rows x.working in
+    let rest = births_kept_by savepoints in
+    each-append P own (births_of_savepoints savepoints) (each_from_rising P own (each_left P (rising_births own) rest all)) (each_from_kept P savepoints (each_right P (rising_births own) rest all))
+
+with_kept : (births same : List ℕ) (savepoints : List Savepoint) → rising_births births ≡ rising_births same → rising_births (births ++ births_kept_by savepoints) ≡ rising_births (same ++ births_of_savepoints savepoints)
+with_kept births same savepoints is =
+    let left = births ++ births_kept_by savepoints in
+    let right = same ++ births_of_savepoints savepoints in
+    same_rising (rising_births left) (rising_births right) (rising_rises left) (rising_rises right)
+    (let P : ℕ → Type 0 = Contains (rising_births right) in
+    let all = each_from_rising P right (each_itself (rising_births right)) in
+    each-rising P left
+    (each-append P births (births_kept_by savepoints)
+    (each_from_rising P births (subst (Each P) (sym is) (each-rising P same (each_left P same (births_of_savepoints savepoints) all))))
+    (each_kept P savepoints (each_right P same (births_of_savepoints savepoints) all))))
+    (let P : ℕ → Type 0 = Contains (rising_births left) in
+    let all = each_from_rising P left (each_itself (rising_births left)) in
+    each-rising P right
+    (each-append P same (births_of_savepoints savepoints)
+    (each_from_rising P same (subst (Each P) is (each-rising P births (each_left P births (births_kept_by savepoints) all))))
+    (each_from_kept P savepoints (each_right P births (births_kept_by savepoints) all))))
+
 -- births added kind by kind are those of a part
-pub put_together : (p : Session) (row at : Option (List ℕ)) (none rows locators all : List ℕ) → none ≡ [] → rows ≡ none ++ births_of_rows (rows_beside row p.working)
-    → locators ≡ rows ++ births_of_locators (locators_beside at p.locators) → all ≡ locators ++ births_of_savepoints p.savepoints → rising_births all ≡ session_births (part_beside row at p)
-put_together p row at none rows locators all none_is rows_is locators_is all_is =
-    ap rising_births
-    (all_is ∙ ap (λ bs. bs ++ births_of_savepoints p.savepoints)
-    (locators_is ∙ ap (λ bs. bs ++ births_of_locators (locators_beside at p.locators)) (rows_is ∙ ap (λ bs. bs ++ births_of_rows (rows_beside row p.working)) none_is)))
+pub put_together : (p : Session) (row at : Option (List ℕ)) (none values all : List ℕ) → none ≡ []
+    → rising_births values ≡ rising_births ((none ++ births_of_rows (rows_beside row p.working)) ++ births_of_locators (locators_beside at p.locators)) → all ≡ values ++ births_kept_by p.savepoints
+    → rising_births all ≡ session_births (part_beside row at p)
+put_together p row at none values all none_is values_are all_is =
+    ap rising_births all_is
+    ∙ with_kept values (births_of_rows (rows_beside row p.working) ++ births_of_locators (locators_beside at p.locators)) p.savepoints
+    (values_are ∙ ap (λ (bs : List ℕ). rising_births ((bs ++ births_of_rows (rows_beside row p.working)) ++ births_of_locators (locators_beside at p.locators))) none_is)
     ∙ sym (births_by_parts (part_beside row at p))
 
 -- and those of a part after a rollback to a savepoint
 pub rolled_together : (p : Session) (x : Savepoint) (none rows locators all : List ℕ) → none ≡ [] → rows ≡ none ++ births_of_rows x.working
-    → locators ≡ rows ++ births_of_locators (with_losses (is_since x) p.locators) → all ≡ locators ++ births_of_savepoints (savepoints_up_to x.name p.savepoints) → rising_births all ≡ session_births (after_rollback_to p x)
+    → locators ≡ rows ++ births_of_locators (with_losses (is_since x) p.locators) → all ≡ locators ++ births_kept_by (savepoints_up_to x.name p.savepoints) → rising_births all ≡ session_births (after_rollback_to p x)
 rolled_together p x none rows locators all none_is rows_is locators_is all_is =
-    ap rising_births
-    (all_is ∙ ap (λ bs. bs ++ births_of_savepoints (savepoints_up_to x.name p.savepoints))
-    (locators_is ∙ ap (λ bs. bs ++ births_of_locators (with_losses (is_since x) p.locators)) (rows_is ∙ ap (λ bs. bs ++ births_of_rows x.working) none_is)))
+    ap rising_births all_is
+    ∙ with_kept locators (births_of_rows x.working ++ births_of_locators (with_losses (is_since x) p.locators)) (savepoints_up_to x.name p.savepoints)
+    (ap rising_births (locators_is ∙ ap (λ bs. bs ++ births_of_locators (with_losses (is_since x) p.locators)) (rows_is ∙ ap (λ bs. bs ++ births_of_rows x.working) none_is)))
     ∙ sym (births_by_parts (after_rollback_to p x))
 
 -- births that are there already add none

@@ -10,7 +10,7 @@ ghost use Rattle.sf_types.specs.Space.Reach.{session_births};
 ghost use Rattle.sf_types.specs.Halves.Own.{is_event};
 ghost use Rattle.sf_types.specs.Halves.Asks.{kept_births};
 ghost use Rattle.sf_session_values.specs.ValueBirths.{births_of_rows, births_of_locators};
-ghost use Rattle.sf_own_part.specs.Inside.PartBirths.{part_beside, part_after_commit, births_of_savepoints};
+ghost use Rattle.sf_own_part.specs.Inside.PartBirths.{part_beside, part_after_commit, births_kept_by};
 
 use crate::own_part::OwnPart;
 use crate::savepoint::Savepoint;
@@ -19,19 +19,19 @@ use sf_birth_union::BirthUnion;
 use sf_session_values::add_change_births;
 use sf_types::{Births, Call, LocName, Mem, Name};
 
-// Adds the births of the k-th savepoint's working values, where there is one.
+// Adds the births that the k-th savepoint keeps, where there is one.
 fn add_savepoint(savepoints: &[Savepoint], k: usize, into: &mut BirthUnion) -> Mem<()>
-    ensures { OnOk result (into.new ≡ into.old ++ option_map_or (λ x. births_of_rows x.working) (slice_get savepoints.now k) []) }
+    ensures { OnOk result (into.new ≡ into.old ++ option_map_or (λ x. rising_births (births_of_rows x.working)) (slice_get savepoints.now k) []) }
 {
     match savepoints.get(k) {
-        Some(savepoint) => add_change_births(&savepoint.working, into),
+        Some(savepoint) => into.add(&savepoint.births),
         None => Ok(()),
     }
 }
 
-// Adds the births of savepoints' working values.
+// Adds the births that savepoints keep.
 fn add_savepoints(savepoints: &[Savepoint], into: &mut BirthUnion) -> Mem<()>
-    ensures { OnOk result (into.new ≡ into.old ++ births_of_savepoints savepoints.now) }
+    ensures { OnOk result (into.new ≡ into.old ++ births_kept_by savepoints.now) }
 {
     for k in 0..savepoints.len() {
         add_savepoint(savepoints, k, into)?;
@@ -55,8 +55,7 @@ impl OwnPart {
         ensures { IfOk result (λ births. births ≡ session_births (part_beside (option_copied row.entry) (option_copied at.entry) self.now.held.part)) }
     {
         let mut births = BirthUnion::new(self.alloc);
-        self.values.add_row_births(row, &mut births)?;
-        self.values.add_locator_births(at, &mut births)?;
+        self.values.add_births_beside(row, at, &mut births)?;
         add_savepoints(&self.savepoints, &mut births)?;
         births.into_births()
     }

@@ -10,7 +10,7 @@ ghost use Rattle.sf_types.specs.Calls.Savepoints.{savepoint_call, savepoint_name
 ghost use Rattle.sf_own_part.specs.Readiness.{IsReady};
 
 use crate::own_part::OwnPart;
-use crate::savepoint::Savepoint;
+use crate::savepoint::{Savepoint, births_of_changes};
 use sf_room_map::KeyTest;
 use sf_session_values::RestoredRows;
 use sf_sorted_map::SortedMap;
@@ -107,10 +107,13 @@ impl OwnPart {
         if self.has_no_room_for(name) {
             return Ok(Reply::Refused(Fault::TooManySavepoints));
         }
+        let working = self.values.changes()?;
+        let births = births_of_changes(self.alloc, &working)?;
         let savepoint = Savepoint {
             name: name.copy()?,
             epoch: self.epoch + 1,
-            working: self.values.changes()?,
+            working,
+            births,
             locked: self.locked()?,
         };
         put_last(&mut self.savepoints, savepoint)?;

@@ -1,5 +1,5 @@
 -- What was read is as good as the whole input, and how far that is.
-use Rattle.std.proofs.Common.{◌≡◌, ℕ, ◌+◌, ◌<◌, Bool, true, false, true≢false, List, [], ◌∷◌, length, take, drop, Option, Some, None, IfSome, Result, Ok, Err, String, refl, sym, ap, subst, ◌∙◌, arith, inl, inr}
+use Rattle.std.proofs.Common.{◌≡◌, ℕ, ◌+◌, ◌<◌, Bool, true, false, true≢false, List, [], ◌∷◌, length, take, drop, Option, Some, None, IfSome, IfOk, Result, Ok, Err, String, refl, sym, ap, subst, ◌∙◌, arith, inl, inr}
 use Rattle.std.proofs.lemmas.Bool.Decides.{leb_tells}
 use Rattle.std.proofs.lemmas.List.{length-take, take_all, drop_all}
 use Rattle.std.specs.Prelude.{nat_lt}
@@ -10,16 +10,18 @@ use Rattle.sf_script.specs.declared.reading.Reading.{Reading}
 use Rattle.sf_script.specs.declared.reading.Reading.TheVariants as reads
 use Rattle.sf_script.specs.declared.limits.TheConstants.{SCRIPT_BYTES}
 use Rattle.sf_script.specs.Lines.{Line, lines_of}
-use Rattle.sf_script.specs.Parts.{ScriptParts}
-use Rattle.sf_script.specs.Reasons.{first_reason, reason_of, has_wrong_bytes, is_misplaced, names_no_session, has_no_form, is_not_played, passes_limit, after_line}
+use Rattle.sf_script.specs.Parts.{ScriptParts, IsScript}
+use Rattle.sf_script.specs.Reasons.{first_reason, reason_of, has_wrong_bytes, is_misplaced, names_no_session, has_no_form, passes_limit, after_line}
 use Rattle.sf_script.specs.Scripts.{fault_at, fault_or, script_at_end, script_from, script_of}
 use Rattle.std.specs.declared.alloc.Global.{Global}
 use Rattle.sf_outside.specs.Sink.{GrowsBy}
+use Rattle.sf_plain_store.specs.Plays.{transcript_of}
 use Rattle.sf_program.specs.declared.input.TheConstants.{READ_LIMIT}
 use Rattle.sf_program.specs.declared.status.Status.{Status}
 use Rattle.sf_program.specs.declared.status.Status.TheVariants as status
 use Rattle.sf_program.specs.Inputs.{IsRead, IsReadFor, IsReadAs}
-use Rattle.sf_program.specs.Program.{is_play, status_of, output_of, due_status, due_output, IsOfWords, IsRefusedOut}
+use Rattle.sf_program.specs.Program.{is_play, status_of, output_of, due_status, due_output, IsOfWords, IsPlayedOut, IsRefusedOut}
+use Rattle.sf_program.proofs.RightLemmas.{right_play}
 
 -- a fact for the value that is there, from another
 pub if_some : {A : Type 0} (o : Option A) (P Q : A → Type 0) → ((x : A) → P x → Q x) → IfSome o P → IfSome o Q
@@ -29,6 +31,10 @@ if_some (Some x) P Q f h = f x h
 pub if_both : {A : Type 0} (o : Option A) (P Q R : A → Type 0) → ((x : A) → P x → Q x → R x) → IfSome o P → IfSome o Q → IfSome o R
 if_both None P Q R f h k = tt
 if_both (Some x) P Q R f h k = f x h k
+
+pub if_all : {A : Type 0} (o : Option A) (P Q R S : A → Type 0) → ((x : A) → P x → Q x → R x → S x) → IfSome o P → IfSome o Q → IfSome o R → IfSome o S
+if_all None P Q R S f h k l = tt
+if_all (Some x) P Q R S f h k l = f x h k l
 
 -- an input with too many bytes, and one without
 too_long : (bytes : List ℕ) → nat_lt SCRIPT_BYTES (length bytes) ≡ true → script_of bytes ≡ fault_at 0 reasons.Size
@@ -66,18 +72,17 @@ size_in (Ok script) = false
 size_in (Err fault) = is_size fault.reason
 
 -- no line is refused for the size
-first_reason-size : (a b c d e f : Bool) → size_among (first_reason ((a, reasons.Bytes) ∷ (b, reasons.Place) ∷ (c, reasons.Session) ∷ (d, reasons.Form) ∷ (e, reasons.Later) ∷ (f, reasons.Limit) ∷ [])) ≡ false
-first_reason-size true b c d e f = refl
-first_reason-size false true c d e f = refl
-first_reason-size false false true d e f = refl
-first_reason-size false false false true e f = refl
-first_reason-size false false false false true f = refl
-first_reason-size false false false false false true = refl
-first_reason-size false false false false false false = refl
+first_reason-size : (a b c d f : Bool) → size_among (first_reason ((a, reasons.Bytes) ∷ (b, reasons.Place) ∷ (c, reasons.Session) ∷ (d, reasons.Form) ∷ (f, reasons.Limit) ∷ [])) ≡ false
+first_reason-size true b c d f = refl
+first_reason-size false true c d f = refl
+first_reason-size false false true d f = refl
+first_reason-size false false false true f = refl
+first_reason-size false false false false true = refl
+first_reason-size false false false false false = refl
 
 reason-size : (reading : Reading) (line : Line) → size_among (reason_of reading line) ≡ false
 reason-size reading line =
-    first_reason-size (has_wrong_bytes line) (is_misplaced reading line.text) (names_no_session reading line.text) (has_no_form reading line.text) (is_not_played reading line.text) (passes_limit reading line.text)
+    first_reason-size (has_wrong_bytes line) (is_misplaced reading line.text) (names_no_session reading line.text) (has_no_form reading line.text) (passes_limit reading line.text)
 
 fault_or-size : (number : ℕ) (reason : Option Reason) (script : Result ScriptParts ScriptFault) → size_among reason ≡ false → size_in script ≡ false → size_in (fault_or number reason script) ≡ false
 fault_or-size number None script none other = other
@@ -118,7 +123,6 @@ read_for input after at reasons.Bytes is left = read_whole input after _ is refl
 read_for input after at reasons.Place is left = read_whole input after _ is refl left
 read_for input after at reasons.Session is left = read_whole input after _ is refl left
 read_for input after at reasons.Form is left = read_whole input after _ is refl left
-read_for input after at reasons.Later is left = read_whole input after _ is refl left
 read_for input after at reasons.Limit is left = read_whole input after _ is refl left
 read_for input after at reasons.Short is left = read_whole input after _ is refl left
 
@@ -138,12 +142,26 @@ refused_out words input left before after answer text play refused due read grew
     let writes : text ≡ output_of (script_of input) = rw play at due.1 in
     refused_by input left before after (script_of input) refl (sym answers ∙ refused) read (subst (λ (xs : List ℕ). GrowsBy before after xs) writes grew)
 
--- a script is refused under `play` alone
-by_play : (words : List (String Global)) (answer : Status) (text : List ℕ) (b : Bool) → is_play words ≡ b → IsOfWords words answer text → answer ≡ status.ScriptRefused → is_play words ≡ true
-by_play words answer text true is of refused = is
-by_play words answer text false is of refused =
-    let usage : status.ScriptRefused ≡ status.Usage = sym refused ∙ (of.others is).0 in
-    absurd (cc usage)
+-- a play that is done, by the status and the output that it is due
+played_by : (input : List ℕ) (left before after : Option (List ℕ)) (r : Result ScriptParts ScriptFault) → script_of input ≡ r → status_of r ≡ status.Done → IfOk r IsScript → IsReadAs r input left → GrowsBy before after (output_of r) → IsPlayedOut input left before after
+played_by input left before after (Ok script) is due holds read grew =
+    let right = right_play script holds in
+    record { script = script; ended = read; reads = is; bytes = transcript_of script; written = grew; right = right.right; order = right.order; places = right.places; text = refl }
+played_by input left before after (Err fault) is due holds read grew = absurd (cc due)
+
+pub played_out : (words : List (String Global)) (input : List ℕ) (left before after : Option (List ℕ)) (answer : Status) (text : List ℕ) → is_play words ≡ true → answer ≡ status.Done → (answer ≡ due_status words input) × (text ≡ due_output words input) → IfOk (script_of input) IsScript → IsReadAs (script_of input) input left → GrowsBy before after text → IsPlayedOut input left before after
+played_out words input left before after answer text play done due holds read grew =
+    let answers : answer ≡ status_of (script_of input) = rw play at due.0 in
+    let writes : text ≡ output_of (script_of input) = rw play at due.1 in
+    played_by input left before after (script_of input) refl (sym answers ∙ done) holds read (subst (λ (xs : List ℕ). GrowsBy before after xs) writes grew)
+
+-- a script is refused, and a play is done, under `play` alone
+other_words : (words : List (String Global)) (answer : Status) (text : List ℕ) (b : Bool) → is_play words ≡ b → IsOfWords words answer text → (answer ≡ status.Usage → ⊥) → is_play words ≡ true
+other_words words answer text true is of other = is
+other_words words answer text false is of other = absurd (other (of.others is).0)
 
 pub refused_play : (words : List (String Global)) (answer : Status) (text : List ℕ) → IsOfWords words answer text → answer ≡ status.ScriptRefused → is_play words ≡ true
-refused_play words answer text of refused = by_play words answer text (is_play words) refl of refused
+refused_play words answer text of refused = other_words words answer text (is_play words) refl of (λ usage. absurd (cc (sym refused ∙ usage)))
+
+pub done_play : (words : List (String Global)) (answer : Status) (text : List ℕ) → IsOfWords words answer text → answer ≡ status.Done → is_play words ≡ true
+done_play words answer text of done = other_words words answer text (is_play words) refl of (λ usage. absurd (cc (sym done ∙ usage)))

@@ -1,5 +1,4 @@
 pub mod AnswerLemmas
-pub mod LiveLemmas
-pub mod PlayLemmas
 pub mod ReadLemmas
+pub mod RightLemmas
 pub mod WriteLemmas

@@ -1,9 +1,6 @@
 pub mod Exits
 pub mod Inputs
-pub mod Live
 pub mod Outputs
-pub mod Plays
 pub mod Program
 pub mod StatusNumbers
-pub mod Transcripts
 pub mod Words

@@ -1,5 +1,5 @@
 -- What the program answers (our own).
-use Rattle.std.specs.Prelude.{◌≡◌, ℕ, ◌⊎◌, Bool, false, IsTrue, List, [], ◌∷◌, ◌++◌, codes, Option, Some, Result, Ok, Err, String, string_bytes, if◌then◌else◌}
+use Rattle.std.specs.Prelude.{◌≡◌, ℕ, ◌⊎◌, Bool, false, IsTrue, List, [], ◌∷◌, ◌++◌, map, codes, Option, Some, Result, Ok, Err, String, string_bytes, if◌then◌else◌}
 use Rattle.std.specs.Str.{bytes_eq}
 use Rattle.std.specs.Fmt.{decimal}
 use Rattle.std.specs.declared.alloc.Global.{Global}
@@ -13,8 +13,8 @@ use Rattle.sf_program.specs.declared.status.Status.{Status}
 use Rattle.sf_program.specs.declared.status.Status.TheVariants as status
 use Rattle.sf_program.specs.Inputs.{IsReadFor, IsReadAs}
 use Rattle.sf_program.specs.Outputs.{GrowsByFront}
-use Rattle.sf_program.specs.Plays.{transcript_of}
-use Rattle.sf_types.specs.Orders.Transcripts.{line}
+use Rattle.sf_plain_store.specs.Plays.{order_of, places_of, transcript_of}
+use Rattle.sf_types.specs.Orders.Transcripts.{IsRight, birth_blocks, line}
 
 -- The words are the one word `play`, the only command today.
 abbrev pub is_play : List (String Global) → Bool
@@ -48,14 +48,20 @@ due_status words input = if is_play words then status_of (script_of input) else 
 abbrev pub due_output : List (String Global) → List ℕ → List ℕ
 due_output words input = if is_play words then output_of (script_of input) else usage_line
 
--- The headline of `play`: the source was read to its end, its bytes are a script, and what the sink took is the
--- transcript of that script, by the run of the order that names session 1 once for each of its calls and once for its
--- End.
+-- The headline of `play`: the source was read to its end, its bytes are a script, and what the sink took is right for that
+-- script: a transcript of one order that is whole for it, with the replies, rows, free number and number of commits of the
+-- run of that order, and with a safe placing. The order is that of the script's turns of play, and the places are those
+-- that these turns leave. So what the sink took is a function of what was read.
 pub record IsPlayedOut (input : List ℕ) (left before after : Option (List ℕ)) : Type 0 where
   pub script : ScriptParts
   pub ended : left ≡ Some []
   pub reads : script_of input ≡ Ok script
-  pub written : GrowsBy before after (transcript_of script)
+  pub bytes : List ℕ
+  pub written : GrowsBy before after bytes
+  pub right : IsRight script.options script.calls bytes
+  pub order : right.order ≡ order_of script
+  pub places : map birth_blocks right.places ≡ places_of script
+  pub text : bytes ≡ transcript_of script
 
 -- A refused script: the bytes of the source are no script, they were read as far as the reason asks, and what the sink
 -- took is the line that says so.

@@ -4,10 +4,8 @@
 mod exit;
 mod input;
 mod output;
-mod play;
 mod program;
 mod status;
-mod transcript;
 mod words;
 
 pub use exit::{exit_code, securefiles};

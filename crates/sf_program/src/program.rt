@@ -3,7 +3,9 @@ ghost use Rattle.std.specs.Prelude.{◌≡◌, ◌≢◌, ◌++◌, ◌≤◌, �
 ghost use Rattle.std.specs.Fmt.{decimal};
 ghost use Rattle.sf_outside.specs.Causes.{EndsAtFault};
 ghost use Rattle.sf_outside.specs.Sink.{GrowsBy};
+ghost use Rattle.sf_script.specs.Parts.{IsScript};
 ghost use Rattle.sf_script.specs.Scripts.{script_of};
+ghost use Rattle.sf_plain_store.specs.Plays.{transcript_of};
 ghost use Rattle.sf_program.specs.declared.status.Status.TheVariants as status;
 ghost use Rattle.sf_program.specs.Inputs.{IsReadAs};
 ghost use Rattle.sf_program.specs.Outputs.{GrowsByFront};
@@ -12,11 +14,11 @@ ghost use Rattle.sf_program.specs.Program.{is_play, usage_line, refusal_line, st
 
 use crate::input::{ReadError, read_input};
 use crate::output::write_output;
-use crate::play::play;
 use crate::status::Status;
-use crate::transcript::transcript;
 use sf_outside::{Sink, Source};
-use sf_script::{ScriptFault, parse};
+use sf_plain_store::PlainStore;
+use sf_script::{Script, ScriptFault, parse};
+use sf_transcript::render;
 use sf_types::{Mem, push_decimal};
 use std::alloc::Global;
 
@@ -61,15 +63,24 @@ pub struct Answer {
     text: Vec<u8>,
 }
 
+// The transcript of a script's play. The Book over which it was played is not needed any more.
+fn transcript(alloc: Global, script: &Script) -> Mem<Vec<u8>>
+    ensures { IfOk result (λ text. text.items ≡ transcript_of script.now) }
+{
+    let (played, _) = PlainStore::play(alloc, script)?;
+    render(alloc, &played)
+}
+
 // The answer to an input under `play`.
 fn answer_play(alloc: Global, input: &[u8]) -> Mem<Answer>
     ensures status { IfOk result (λ answer. answer.status ≡ status_of (script_of input.now)) }
     ensures text { IfOk result (λ answer. answer.text.items ≡ output_of (script_of input.now)) }
+    ensures script { IfOk result (λ _. IfOk (script_of input.now) IsScript) }
 {
     match parse(alloc, input)? {
         Ok(script) => Ok(Answer {
             status: Status::Done,
-            text: transcript(alloc, &play(alloc, &script)?)?,
+            text: transcript(alloc, &script)?,
         }),
         Err(fault) => Ok(Answer {
             status: Status::ScriptRefused,
@@ -90,6 +101,8 @@ fn answer_words<S: Source>(
     ensures words { IfOk result (λ answer. IsOfWords words.now answer.status answer.text.items) }
     ensures ended { IfSome (S.left source.old) (λ input. IfOk result (λ _.
         IsTrue (is_play words.now) → IsReadAs (script_of input) input (S.left source.new))) }
+    ensures script { IfSome (S.left source.old) (λ input. IfOk result (λ _.
+        IsTrue (is_play words.now) → IfOk (script_of input) IsScript)) }
     ensures unread { is_play words.now ≡ false → source.new ≡ source.old }
     ensures stopped { IfErr result (IsStop words.now (S.faults source.old) (S.faults source.new) (S.has_failed source.new)) }
     ensures later { S.faults source.old ≤ S.faults source.new }

@@ -15,12 +15,10 @@ use Rattle.sf_script.specs.declared.turn.Turn.{Turn}
 use Rattle.sf_script.specs.Inside.Readings.{CanHaveTurns}
 use Rattle.sf_script.specs.OptionLines.{is_option_in_range, with_option}
 use Rattle.sf_types.specs.declared.call.Call.{Call}
-use Rattle.sf_types.specs.declared.call.Call.TheVariants as calls
 use Rattle.sf_script.specs.Inside.Drafts.{IsDraft}
 use Rattle.sf_script.specs.declared.limits.TheConstants.{SCRIPT_CALLS, SCRIPT_PAYLOAD_BYTES, SCRIPT_TURNS}
 use Rattle.sf_script_calls.specs.Calls.{payload_length}
 use Rattle.sf_script.specs.Parts.{ScriptParts, is_no_end, names_session, call_count, payload_bytes}
-use Rattle.sf_script.specs.Provisional.Calls.{can_stand}
 use Rattle.sf_script.specs.Reasons.{new_script, with_call, with_turns, passes_call_limit}
 
 -- the standard options are in their ranges
@@ -110,21 +108,6 @@ pub all_empty : {X : Type 0} (test : X → Bool) (n : ℕ) → list_all (list_al
 all_empty test zero = refl
 all_empty test (suc n) = all_empty test n
 
--- a call that is played is no End
-no_end : (call : Call) → can_stand call ≡ true → is_no_end call ≡ true
-no_end calls.End e = absurd cc
-no_end _ e = refl
-
-all_weaker : {X : Type 0} (p q : X → Bool) (xs : List X) → ((x : X) → p x ≡ true → q x ≡ true) → list_all p xs ≡ true → list_all q xs ≡ true
-all_weaker p q [] weaker each = refl
-all_weaker p q (x ∷ xs) weaker each =
-    let parts = and_parts (p x) (list_all p xs) each in
-    and_from (q x) (list_all q xs) (weaker x parts.0) (all_weaker p q xs weaker parts.1)
-
-none_ends : (sessions : List (List Call)) → list_all (list_all can_stand) sessions ≡ true → list_all (list_all is_no_end) sessions ≡ true
-none_ends sessions each =
-    all_weaker (list_all can_stand) (list_all is_no_end) sessions (λ xs all. all_weaker can_stand is_no_end xs no_end all) each
-
 -- a new script is one
 pub new_is_draft : (options : Options) (sessions : ℕ) → IsInRange options → 1 ≤ sessions → sessions ≤ 16 → IsDraft (new_script options sessions) 0 0
 new_is_draft options sessions range low high = record {
@@ -136,7 +119,6 @@ new_is_draft options sessions range low high = record {
     no_end = all_empty is_no_end sessions;
     turns = refl;
   };
-  played = all_empty can_stand sessions;
   calls = omega (arith, sum_by-replicate (length {A = Call}) sessions []);
   payloads = omega (arith, sum_by-replicate (sum_by payload_length) sessions []);
   few = omega arith;
@@ -163,9 +145,9 @@ no_or false b e = (refl, e)
 
 -- with one more call it is one
 pub with_call_is_draft : (parts : ScriptParts) (count bytes session : ℕ) (call : Call) → IsDraft parts count bytes → 1 ≤ session → session ≤ parts.sessions
-    → can_stand call ≡ true → passes_call_limit parts (payload_length call) ≡ false
+    → is_no_end call ≡ true → passes_call_limit parts (payload_length call) ≡ false
     → IsDraft (with_call parts session call) (count + 1) (bytes + payload_length call)
-with_call_is_draft parts count bytes session call draft low high stands room =
+with_call_is_draft parts count bytes session call draft low high no_end room =
     let i : ℕ = session - 1 in
     let old : List Call = get_or parts.calls i [] in
     let new : List Call = old ++ call ∷ [] in
@@ -177,18 +159,16 @@ with_call_is_draft parts count bytes session call draft low high stands room =
     let both = no_or (ltb BUFFER_BYTES (payload_length call) || ltb SCRIPT_CALLS (call_count parts.calls + 1)) (ltb SCRIPT_PAYLOAD_BYTES (payload_bytes parts.calls + payload_length call)) room in
     let few = ltb-false _ _ (no_or (ltb BUFFER_BYTES (payload_length call)) (ltb SCRIPT_CALLS (call_count parts.calls + 1)) both.0).1 in
     let small = ltb-false _ _ both.1 in
-    let all_new : list_all can_stand new ≡ true = list_all-append can_stand old (call ∷ []) ∙ and_from _ _ (all_at can_stand parts.calls i draft.played) (and_from (can_stand call) true stands refl) in
-    let each : list_all (list_all can_stand) (slice_set parts.calls i new) ≡ true = all-set (list_all can_stand) parts.calls i new draft.played all_new in
+    let all_new : list_all is_no_end new ≡ true = list_all-append is_no_end old (call ∷ []) ∙ and_from _ _ (all_at is_no_end parts.calls i draft.script.no_end) (and_from (is_no_end call) true no_end refl) in
     record {
       script = record {
         options = draft.script.options;
         sessions_low = draft.script.sessions_low;
         sessions_high = draft.script.sessions_high;
         one_list_each = length-set parts.calls i new ∙ draft.script.one_list_each;
-        no_end = none_ends (slice_set parts.calls i new) each;
+        no_end = all-set (list_all is_no_end) parts.calls i new draft.script.no_end all_new;
         turns = draft.script.turns;
       };
-      played = each;
       calls = omega (arith, counted, longer, draft.calls);
       payloads = omega (arith, weighed, heavier, draft.payloads);
       few = omega (arith, few, draft.calls);
@@ -208,7 +188,6 @@ with_turns_is_draft parts count bytes turns draft more =
         no_end = draft.script.no_end;
         turns = list_all-append (names_session parts.sessions) parts.turns turns ∙ and_from _ _ draft.script.turns more.named;
       };
-      played = draft.played;
       calls = draft.calls;
       payloads = draft.payloads;
       few = draft.few;

@@ -1,21 +1,15 @@
--- A form that is played and within the limits may follow.
+-- A form that is within the limits may follow.
 use Rattle.std.proofs.Common.{◌≡◌, ℕ, ◌≤◌, Bool, true, false, cond, ◌&&◌, leb, List, [], ◌∷◌, Option, Some, None, refl, subst, arith}
 use Rattle.std.specs.Prelude.{codes}
 use Rattle.std.specs.List.{list_all}
 use Rattle.std.proofs.lemmas.Bool.{and_parts, and_from, leb-true, le-leb}
 use Rattle.std.proofs.lemmas.Option.{cond_some}
-use Rattle.sf_types.specs.declared.call.Call.{Call}
-use Rattle.sf_types.specs.declared.call.Call.TheVariants as calls
 use Rattle.sf_types.proofs.BoolLemmas.{not_not}
-use Rattle.sf_script_calls.specs.declared.call.PayloadCall.{PayloadCall}
-use Rattle.sf_script_calls.specs.declared.call.PayloadCall.TheVariants as wants
 use Rattle.sf_script_calls.specs.CallTable.{call_form}
-use Rattle.sf_script_calls.specs.Calls.{CallForm, Plain, WithPayload, call_with, spelled_call}
 use Rattle.sf_script_calls.specs.Numbers.{number_of}
-use Rattle.sf_script_calls.specs.Payloads.{bytes_of}
 use Rattle.sf_script_calls.specs.Reads.{◌>>=◌}
 use Rattle.sf_script_calls.specs.Words.{word_at, first_word, is_word}
-use Rattle.sf_script.specs.declared.fault.Reason.TheVariants.{Later, Limit}
+use Rattle.sf_script.specs.declared.fault.Reason.TheVariants.{Limit}
 use Rattle.sf_script.specs.declared.reading.Reading.{Reading}
 use Rattle.sf_script.specs.declared.reading.Reading.TheVariants as reads
 use Rattle.sf_script.specs.declared.turn.Turn.{Turn}
@@ -24,9 +18,8 @@ use Rattle.sf_script.specs.Inside.Readings.{form_reason, CanFollow, IsOfSessions
 use Rattle.sf_script.specs.LineForms.{LineForm, HeaderLine, SetsOption, SessionsLine, CallLine, ScheduleLine, form_of, schedule_line, call_line}
 use Rattle.sf_script.specs.OptionLines.{is_option_in_range}
 use Rattle.sf_script.specs.Parts.{names_session}
-use Rattle.sf_script.specs.Provisional.Calls.{can_stand}
-use Rattle.sf_script.specs.Provisional.Lines.{is_played_plain, is_played_payload_call, is_played_call, is_later}
-use Rattle.sf_script.specs.Reasons.{first_reason, form_passes_limit}
+use Rattle.sf_script.specs.Reasons.{form_passes_limit}
+use Rattle.sf_script.proofs.NoEndLemmas.{IsOfNoEnd, call_of_no_end}
 use Rattle.sf_script.specs.Schedules.{session_number, session_of, ends_with_colon, turn_of, turns_of, schedule_words}
 
 bind_some : {A B : Type 0} (o : Option A) (f : A → Option B) (y : B) → (o >>= f) ≡ Some y → (x : A) × (o ≡ Some x) × (f x ≡ Some y)
@@ -52,14 +45,15 @@ session_in sessions word session e = number_in sessions _ session (choose_some (
 some_is : {A : Type 0} (x y : A) → Some x ≡ Some y → x ≡ y
 some_is x y e = cc
 
--- the session of a call line is one that there is
+-- the session of a call line is one that there is, and its call is no End
 call_line_in : (sessions : ℕ) (text : List ℕ) (form : LineForm) → call_line sessions text ≡ Some form → IsOfSessions sessions form
 unfolding call_line
 call_line_in sessions text form e =
     let p = bind_some (word_at text) (λ word. session_of sessions word.0 >>= λ s. call_form word.1 >>= λ f. Some (CallLine s f)) form e in
     let q = bind_some (session_of sessions p.0.0) (λ s. call_form p.0.1 >>= λ f. Some (CallLine s f)) form p.2 in
     let r = bind_some (call_form p.0.1) (λ f. Some (CallLine q.0 f)) form q.2 in
-    subst (IsOfSessions sessions) (some_is (CallLine q.0 r.0) form r.2) (session_in sessions p.0.0 q.0 q.1)
+    let in-range = session_in sessions p.0.0 q.0 q.1 in
+    subst (IsOfSessions sessions) (some_is (CallLine q.0 r.0) form r.2) (in-range.0, in-range.1, subst IsOfNoEnd r.1 (call_of_no_end p.0.1))
 
 -- a turn names a session that there is
 numbered : (sessions : ℕ) (o : Option ℕ) (turn : Turn) → ((n : ℕ) → o ≡ Some n → (1 ≤ n) × (n ≤ sessions)) → (o >>= λ n. Some (turn_kinds.Session n)) ≡ Some turn → names_session sessions turn ≡ true
@@ -101,52 +95,28 @@ is_form_after reads.Nothing text form e = tt
 is_form_after (reads.Options read) text form e = tt
 is_form_after (reads.Sessions parts) text form e = either (is_word (codes "schedule") (first_word text)) parts.sessions text form e
 
--- a call that is played may stand in a script
-plain_stands : (call : Call) → is_played_plain call ≡ true → can_stand call ≡ true
-plain_stands (calls.Insert row) e = refl
-plain_stands (calls.Lock to row) e = refl
-plain_stands (calls.Length at) e = refl
-plain_stands (calls.Read at amount offset) e = refl
-plain_stands calls.Commit e = refl
-plain_stands _ e = absurd cc
+-- a form that isn't refused is within the limits
+allowed : (limit : Bool) → cond limit (Some Limit) None ≡ None → limit ≡ false
+allowed true e = absurd cc
+allowed false e = refl
 
-with_stands : (call : PayloadCall) (bytes : List ℕ) → is_played_payload_call call ≡ true → can_stand (call_with call bytes) ≡ true
-with_stands (wants.WriteAppend at) bytes e = refl
-with_stands (wants.Instr at offset) bytes e = absurd cc
-with_stands (wants.Write at offset) bytes e = absurd cc
-with_stands (wants.FragInsert at offset) bytes e = absurd cc
-with_stands (wants.FragReplace at old_amount offset) bytes e = absurd cc
-
-stands : (form : CallForm) → is_played_call form ≡ true → can_stand (spelled_call form) ≡ true
-stands (Plain call) e = plain_stands call e
-stands (WithPayload call payload) e = with_stands call (bytes_of payload) e
-
--- a form that isn't refused is played and within the limits
-neither : (later limit : Bool) → first_reason ((later, Later) ∷ (limit, Limit) ∷ []) ≡ None → (later ≡ false) × (limit ≡ false)
-neither true limit e = absurd cc
-neither false true e = absurd cc
-neither false false e = (refl, refl)
-
-allowed : (reading : Reading) (form : LineForm) → form_reason reading form ≡ None → (is_later form ≡ false) × (form_passes_limit reading form ≡ false)
-unfolding form_reason
-allowed reading form e = neither (is_later form) (form_passes_limit reading form) e
-
-follows : (reading : Reading) (form : LineForm) → IsFormAfter reading form → is_later form ≡ false → form_passes_limit reading form ≡ false → CanFollow reading form
-unfolding form_passes_limit is_later
-follows reads.Nothing HeaderLine after later limit = tt
-follows (reads.Options read) HeaderLine after later limit = tt
-follows (reads.Sessions parts) HeaderLine after later limit = tt
-follows reading (SetsOption option) after later limit = not_not (is_option_in_range option) limit
-follows reading (SessionsLine number) after later limit =
+follows : (reading : Reading) (form : LineForm) → IsFormAfter reading form → form_passes_limit reading form ≡ false → CanFollow reading form
+unfolding form_passes_limit
+follows reads.Nothing HeaderLine after limit = tt
+follows (reads.Options read) HeaderLine after limit = tt
+follows (reads.Sessions parts) HeaderLine after limit = tt
+follows reading (SetsOption option) after limit = not_not (is_option_in_range option) limit
+follows reading (SessionsLine number) after limit =
     let p = and_parts (leb 1 number) (leb number 16) (not_not (leb 1 number && leb number 16) limit) in
     (leb-true 1 number p.0, leb-true number 16 p.1)
-follows reads.Nothing (ScheduleLine turns) after later limit = tt
-follows (reads.Options read) (ScheduleLine turns) after later limit = tt
-follows (reads.Sessions parts) (ScheduleLine turns) after later limit = record { named = after; room = limit }
-follows reads.Nothing (CallLine session form) after later limit = tt
-follows (reads.Options read) (CallLine session form) after later limit = tt
-follows (reads.Sessions parts) (CallLine session form) after later limit =
-    record { low = after.0; high = after.1; stands = stands form (not_not (is_played_call form) later); room = limit }
+follows reads.Nothing (ScheduleLine turns) after limit = tt
+follows (reads.Options read) (ScheduleLine turns) after limit = tt
+follows (reads.Sessions parts) (ScheduleLine turns) after limit = record { named = after; room = limit }
+follows reads.Nothing (CallLine session form) after limit = tt
+follows (reads.Options read) (CallLine session form) after limit = tt
+follows (reads.Sessions parts) (CallLine session form) after limit =
+    record { low = after.0; high = after.1; no_end = after.2; room = limit }
 
 pub can_follow : (reading : Reading) (form : LineForm) → IsFormAfter reading form → form_reason reading form ≡ None → CanFollow reading form
-can_follow reading form after e = let p = allowed reading form e in follows reading form after p.0 p.1
+unfolding form_reason
+can_follow reading form after e = follows reading form after (allowed (form_passes_limit reading form) e)

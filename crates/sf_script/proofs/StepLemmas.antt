@@ -3,14 +3,13 @@ use Rattle.std.proofs.Common.{◌≡◌, ℕ, ◌+◌, Bool, true, false, List, 
 use Rattle.std.specs.Prelude.{is_none}
 use Rattle.std.specs.Option.{option_or, option_map_or}
 use Rattle.sf_script.specs.declared.fault.Reason.{Reason}
-use Rattle.sf_script.specs.declared.fault.Reason.TheVariants.{Bytes, Place, Session, Form, Later, Limit}
+use Rattle.sf_script.specs.declared.fault.Reason.TheVariants.{Bytes, Place, Session, Form, Limit}
 use Rattle.sf_script.specs.declared.fault.ScriptFault.{ScriptFault}
 use Rattle.sf_script.specs.declared.reading.Reading.{Reading}
 use Rattle.sf_script.specs.LineForms.{LineForm, form_of}
 use Rattle.sf_script.specs.Lines.{Line}
 use Rattle.sf_script.specs.Parts.{ScriptParts}
-use Rattle.sf_script.specs.Provisional.Lines.{is_later}
-use Rattle.sf_script.specs.Reasons.{has_wrong_bytes, is_misplaced, names_no_session, has_no_form, is_not_played, passes_limit, form_passes_limit, first_reason, reason_of, after_form, after_line}
+use Rattle.sf_script.specs.Reasons.{has_wrong_bytes, is_misplaced, names_no_session, has_no_form, passes_limit, form_passes_limit, first_reason, reason_of, after_form, after_line}
 use Rattle.sf_script.specs.Inside.Readings.{reason_or, next_reading, early_reason, form_reason, reading_with}
 use Rattle.sf_script.specs.Scripts.{fault_at, fault_or, script_at_end, script_from}
 
@@ -26,13 +25,13 @@ split false false false x y z others = refl
 abbrev made_of : Reading → Option Reason → Option LineForm → Result Reading Reason
 made_of reading early form =
     reason_or
-    (option_or early (first_reason ((is_none form, Form) ∷ (option_map_or is_later form false, Later) ∷ (option_map_or (form_passes_limit reading) form false, Limit) ∷ [])))
+    (option_or early (first_reason ((is_none form, Form) ∷ (option_map_or (form_passes_limit reading) form false, Limit) ∷ [])))
     (option_map_or (after_form reading) form reading)
 
 whole : (reading : Reading) (line : Line) → next_reading reading line ≡ made_of reading (early_reason reading line) (form_of reading line.text)
 unfolding next_reading early_reason
 whole reading line =
-    ap (λ (o : Option Reason). reason_or o (after_line reading line.text)) (split (has_wrong_bytes line) (is_misplaced reading line.text) (names_no_session reading line.text) Bytes Place Session ((has_no_form reading line.text, Form) ∷ (is_not_played reading line.text, Later) ∷ (passes_limit reading line.text, Limit) ∷ []))
+    ap (λ (o : Option Reason). reason_or o (after_line reading line.text)) (split (has_wrong_bytes line) (is_misplaced reading line.text) (names_no_session reading line.text) Bytes Place Session ((has_no_form reading line.text, Form) ∷ (passes_limit reading line.text, Limit) ∷ []))
 
 by_parts : (reading : Reading) (line : Line) (early : Option Reason) (form : Option LineForm) → early_reason reading line ≡ early → form_of reading line.text ≡ form → next_reading reading line ≡ made_of reading early form
 by_parts reading line early form is has =

@@ -7,5 +7,4 @@ pub mod Reasons
 pub mod Scripts
 pub mod Faults
 pub mod Gives
-pub mod Provisional
 pub mod Inside

@@ -7,13 +7,12 @@ use Rattle.sf_types.specs.declared.limits.TheConstants.{BUFFER_BYTES, STORE_SESS
 use Rattle.sf_types.specs.Limits.{standard_options}
 use Rattle.sf_types.specs.declared.call.Call.{Call}
 use Rattle.sf_script.specs.declared.fault.Reason.{Reason}
-use Rattle.sf_script.specs.declared.fault.Reason.TheVariants.{Bytes, Place, Session, Form, Later, Limit}
+use Rattle.sf_script.specs.declared.fault.Reason.TheVariants.{Bytes, Place, Session, Form, Limit}
 use Rattle.sf_script.specs.declared.reading.Reading.{Reading}
 use Rattle.sf_script.specs.declared.reading.Reading.TheVariants as reads
 use Rattle.sf_script_calls.specs.Calls.{spelled_call, payload_length}
 use Rattle.sf_script.specs.declared.limits.TheConstants.{SCRIPT_CALLS, SCRIPT_PAYLOAD_BYTES, SCRIPT_TURNS}
 use Rattle.sf_script.specs.LineForms.{LineForm, HeaderLine, SetsOption, SessionsLine, CallLine, ScheduleLine, form_of}
-use Rattle.sf_script.specs.Provisional.Lines.{is_later}
 use Rattle.sf_script.specs.Lines.{Line, is_line_byte}
 use Rattle.sf_script_calls.specs.Numbers.{is_empty_list}
 use Rattle.sf_types.specs.declared.options.Options.{Options}
@@ -54,10 +53,6 @@ names_no_session _ text = false
 abbrev pub has_no_form : Reading → List ℕ → Bool
 has_no_form reading text = is_none (form_of reading text)
 
--- The program doesn't play such a line yet.
-abbrev pub is_not_played : Reading → List ℕ → Bool
-is_not_played reading text = option_map_or is_later (form_of reading text) false
-
 -- A call's payload of so many bytes is too long, or with this call the script has too many calls or payload bytes.
 abbrev pub passes_call_limit : ScriptParts → ℕ → Bool
 passes_call_limit parts bytes =
@@ -94,7 +89,6 @@ reason_of reading line = first_reason (
     ∷ (is_misplaced reading line.text, Place)
     ∷ (names_no_session reading line.text, Session)
     ∷ (has_no_form reading line.text, Form)
-    ∷ (is_not_played reading line.text, Later)
     ∷ (passes_limit reading line.text, Limit)
     ∷ [])
 

@@ -6,7 +6,6 @@ ghost use Rattle.sf_script.specs.Inside.Readings.{early_reason, form_reason};
 ghost use Rattle.sf_script.specs.Inside.Views.{text_line, line_view};
 
 use crate::fault::Reason;
-use crate::later::is_later;
 use crate::line_form::SpelledLine;
 use crate::lines::{TextLine, are_line_bytes};
 use crate::option_line::{is_option_in_range, option_rank};
@@ -111,9 +110,7 @@ pub fn early_reason(reading: &Reading, line: &TextLine) -> Option<Reason>
 pub fn form_reason(reading: &Reading, line: &SpelledLine) -> Option<Reason>
     ensures { result ≡ form_reason reading.now (line_view line.now) }
 {
-    if is_later(line) {
-        Some(Reason::Later)
-    } else if passes_limit(reading, line) {
+    if passes_limit(reading, line) {
         Some(Reason::Limit)
     } else {
         None

@@ -14,8 +14,6 @@ pub enum Reason {
     Session,
     /// The line is otherwise of no form.
     Form,
-    /// The line's form isn't built yet.
-    Later,
     /// A number is out of its range, or the script passes a limit.
     Limit,
     /// The script has no sessions line.
@@ -36,7 +34,6 @@ impl Reason {
             Reason::Place => "place",
             Reason::Session => "session",
             Reason::Form => "form",
-            Reason::Later => "later",
             Reason::Limit => "limit",
             Reason::Short => "short",
         }

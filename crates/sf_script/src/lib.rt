@@ -3,7 +3,6 @@
 
 mod checks;
 mod fault;
-mod later;
 mod limits;
 mod line_form;
 mod lines;

@@ -5,7 +5,7 @@ ghost use Rattle.sf_script_calls.specs.Views.{call_view};
 ghost use Rattle.sf_script.specs.Gives.{Gives};
 ghost use Rattle.sf_script.specs.declared.limits.TheConstants.{SCRIPT_BYTES};
 ghost use Rattle.sf_script.specs.declared.reading.Reading.TheVariants.{Options, Sessions};
-ghost use Rattle.sf_script.specs.Provisional.Calls.{IsPlayable};
+ghost use Rattle.sf_script.specs.Parts.{IsScript};
 ghost use Rattle.sf_script.specs.Reasons.{with_call, after_form};
 ghost use Rattle.sf_script.specs.Inside.Readings.{next_reading, reading_with, CanHaveCall, CanFollow, IsFormAfter};
 ghost use Rattle.sf_script.specs.Lines.{lines_of};
@@ -132,8 +132,8 @@ fn read_line(alloc: Global, reading: Reading, line: TextLine) -> Result<Reading,
 
 // The script where no line is left.
 fn script_at_end(line: u32, reading: Reading) -> Result<Script, ScriptFault>
-    ensures script { result ≡ script_at_end line reading }
-    ensures played { IsPlayable result }
+    ensures exact { result ≡ script_at_end line reading }
+    ensures script { IfOk result IsScript }
 {
     match reading {
         Reading::Sessions(draft) => Ok(draft.into_script()),
@@ -147,8 +147,8 @@ fn script_at_end(line: u32, reading: Reading) -> Result<Script, ScriptFault>
 // The script of the lines of a text.
 fn script_of_lines(alloc: Global, bytes: &[u8]) -> Mem<Result<Script, ScriptFault>>
     requires { length bytes.now ≤ SCRIPT_BYTES }
-    ensures script { IfOk result (λ read. read ≡ script_from 1 Reading.Nothing (lines_of bytes.now)) }
-    ensures played { IfOk result IsPlayable }
+    ensures exact { IfOk result (λ read. read ≡ script_from 1 Reading.Nothing (lines_of bytes.now)) }
+    ensures script { IfOk result (λ read. IfOk read IsScript) }
 {
     let mut number: u32 = 1;
     let mut reading = Reading::Nothing;
@@ -174,7 +174,7 @@ fn script_of_lines(alloc: Global, bytes: &[u8]) -> Mem<Result<Script, ScriptFaul
 #[tactic(auto, unfolding(crate::specs::Scripts::script_of))]
 pub fn parse(alloc: Global, bytes: &[u8]) -> Mem<Result<Script, ScriptFault>>
     ensures exact { IfOk result (λ read. read ≡ script_of bytes.now) }
-    ensures played { IfOk result IsPlayable }
+    ensures script { IfOk result (λ read. IfOk read IsScript) }
 {
     if bytes.len() > SCRIPT_BYTES {
         return Ok(Err(ScriptFault {

@@ -5,7 +5,7 @@ ghost use Rattle.sf_types.specs.declared.limits.TheConstants.{STORE_SESSIONS};
 ghost use Rattle.sf_script_calls.specs.Calls.{payload_length};
 ghost use Rattle.sf_script_calls.specs.Words.{parts_of};
 ghost use Rattle.sf_script.specs.Inside.Readings.{CanHaveTurns};
-ghost use Rattle.sf_script.specs.Provisional.Calls.{can_stand, ArePlayed};
+ghost use Rattle.sf_script.specs.Parts.{IsScript, is_no_end};
 ghost use Rattle.sf_script.specs.Reasons.{has_schedule, new_script, with_call, with_turns, passes_call_limit, passes_turn_limit};
 ghost use Rattle.sf_script.specs.Schedules.{turns_of};
 
@@ -105,7 +105,7 @@ impl Draft {
     pub fn with_call(self, session: u16, call: Call) -> Mem<Draft>
         requires low { 1 ≤ session }
         requires high { session ≤ self.sessions }
-        requires stands { IsTrue (can_stand call) }
+        requires no_end { IsTrue (is_no_end call) }
         requires room { passes_call_limit self (payload_length call) ≡ false }
         ensures { IfOk result (λ draft. draft ≡ with_call self session call) }
     {
@@ -156,8 +156,8 @@ impl Draft {
 
     // The script that was read.
     pub fn into_script(self) -> Script
-        ensures script { result ≡ self }
-        ensures played { ArePlayed result.calls }
+        ensures exact { result ≡ self }
+        ensures script { IsScript result }
     {
         let Draft {
             options,

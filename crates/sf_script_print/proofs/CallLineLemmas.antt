@@ -13,14 +13,13 @@ use Rattle.sf_types.proofs.ListLemmas.{parts-at}
 use Rattle.sf_types.proofs.NumberLemmas.{same_number, at_most}
 use Rattle.sf_script.specs.LineForms.{LineForm, CallLine, call_line}
 use Rattle.sf_script.specs.Lines.{is_line_byte}
-use Rattle.sf_script.specs.Provisional.Lines.{is_played_call}
 use Rattle.sf_script.specs.Schedules.{ends_with_colon, session_number, session_of}
 use Rattle.sf_script_calls.specs.declared.call.PayloadCall.{PayloadCall}
 use Rattle.sf_script_calls.specs.declared.call.PayloadCall.TheVariants as wants
 use Rattle.sf_script_calls.specs.CallTable.{call_form}
 use Rattle.sf_script_calls.specs.Calls.{CallForm, Plain, WithPayload, call_with, spelled_call, payload_length}
 use Rattle.sf_script_calls.specs.Numbers.{number_of}
-use Rattle.sf_script_calls.specs.Payloads.{Payload, bytes_of}
+use Rattle.sf_script_calls.specs.Payloads.{bytes_of}
 use Rattle.sf_script_calls.specs.Reads.{◌>>=◌}
 use Rattle.sf_script_calls.specs.Words.{first_word, word_at}
 use Rattle.sf_script_print.specs.PrintedCalls.{call_text, printed_text, printed_payload, printed_call}
@@ -108,7 +107,6 @@ pub record IsPrintedLine (sessions : ℕ) (text : List ℕ) (session : ℕ) (for
   pub next : CallForm
   pub read : call_line sessions line ≡ Some (CallLine session next)
   pub same : spelled_call next ≡ spelled_call form
-  pub kind : is_played_call next ≡ is_played_call form
   pub first : first_word line ≡ first_word text
   pub size : length line ≤ length text
   pub in_line : list_all is_line_byte text ≡ true → list_all is_line_byte line ≡ true
@@ -123,9 +121,6 @@ length_of_payload (wants.Write at offset) bytes = refl
 length_of_payload (wants.WriteAppend at) bytes = refl
 length_of_payload (wants.FragInsert at offset) bytes = refl
 length_of_payload (wants.FragReplace at old_amount offset) bytes = refl
-
-same_kind : (call : PayloadCall) (first second : Payload) → is_played_call (WithPayload call first) ≡ is_played_call (WithPayload call second)
-same_kind call first second = refl
 
 all_first : (a b : List ℕ) → list_all is_line_byte (a ++ b) ≡ true → list_all is_line_byte a ≡ true
 all_first a b all = (and_parts (list_all is_line_byte a) (list_all is_line_byte b) (sym (list_all-append is_line_byte a b) ∙ all)).0
@@ -157,7 +152,6 @@ with_form sessions text session (Plain call) parts cut named is small = record {
   next = Plain call;
   read = call_line_is sessions text parts.word parts.rest session (Plain call) parts.cut parts.is_session parts.call;
   same = refl;
-  kind = refl;
   first = refl;
   size = omega arith;
   in_line = λ in_text. in_text;
@@ -174,7 +168,6 @@ with_form sessions text session (WithPayload call payload) parts cut named is sm
       next = WithPayload call again.payload;
       read = call_line_is sessions (parts.word ++ 32 ∷ (is.front ++ printed_payload bytes)) parts.word (is.front ++ printed_payload bytes) session (WithPayload call again.payload) (cut.again (is.front ++ printed_payload bytes)) parts.is_session (is.again (printed_payload bytes) again.payload again.read);
       same = ap (call_with call) again.same;
-      kind = same_kind call again.payload payload;
       first = cut.first_again (is.front ++ printed_payload bytes) ∙ sym cut.first;
       size = made.size;
       in_line = made.in_line;

@@ -14,7 +14,6 @@ pub mod LinesReadLemmas
 pub mod ScheduleReadLemmas
 pub mod OptionReadLemmas
 pub mod OptionAgainLemmas
-pub mod LaterLemmas
 pub mod PrintedScriptLemmas
 pub mod SessionLemmas
 pub mod ScheduleLemmas

@@ -6,9 +6,8 @@ use Rattle.sf_script.specs.declared.fault.ScriptFault.{ScriptFault}
 use Rattle.sf_script.specs.declared.reading.Reading.{Reading}
 use Rattle.sf_script.specs.Lines.{Line, is_line_byte, lines_of}
 use Rattle.sf_script.specs.Parts.{ScriptParts}
-use Rattle.sf_script.specs.Reasons.{after_line}
-use Rattle.sf_script.specs.Scripts.{fault_or, script_at_end}
-use Rattle.sf_script_print.specs.ScriptsBy.{IsLater, reason_by, script_from_by}
+use Rattle.sf_script.specs.Reasons.{after_line, reason_of}
+use Rattle.sf_script.specs.Scripts.{fault_or, script_at_end, script_from}
 use Rattle.sf_script_print.proofs.RightLineLemmas.{IsRight, is_right}
 use Rattle.sf_script_print.proofs.TextLineLemmas.{lines_behind, no_lines}
 
@@ -17,30 +16,30 @@ went : (number : ℕ) (reason : Option Reason) (rest : Result ScriptParts Script
 went number (Some reason) rest script e = absurd cc
 went number None rest script e = (refl, e)
 
-pub line_read : (later : IsLater) (number : ℕ) (reading : Reading) (line : Line) (lines : List Line) (script : ScriptParts) → script_from_by later number reading (line ∷ lines) ≡ Ok script
-    → IsRight later reading line × (script_from_by later (number + 1) (after_line reading line.text) lines ≡ Ok script)
-unfolding script_from_by
-line_read later number reading line lines script e =
-    let p = went number (reason_by later reading line) (script_from_by later (number + 1) (after_line reading line.text) lines) script e in
-    (is_right later reading line p.0, p.1)
+pub line_read : (number : ℕ) (reading : Reading) (line : Line) (lines : List Line) (script : ScriptParts) → script_from number reading (line ∷ lines) ≡ Ok script
+    → IsRight reading line × (script_from (number + 1) (after_line reading line.text) lines ≡ Ok script)
+unfolding script_from
+line_read number reading line lines script e =
+    let p = went number (reason_of reading line) (script_from (number + 1) (after_line reading line.text) lines) script e in
+    (is_right reading line p.0, p.1)
 
 -- a line, and the lines behind it
-pub lines_read : (later : IsLater) (number : ℕ) (reading next : Reading) (text rest : List ℕ) (script : ScriptParts) → list_all is_line_byte text ≡ true
-    → reason_by later reading (record { text = text; ended = true }) ≡ None → after_line reading text ≡ next
-    → script_from_by later (number + 1) next (lines_of rest) ≡ Ok script → script_from_by later number reading (lines_of (text ++ 10 ∷ rest)) ≡ Ok script
-unfolding script_from_by
-lines_read later number reading next text rest script in-line right after others =
-    ap (script_from_by later number reading) (lines_behind text rest in-line)
-    ∙ ap (λ (o : Option Reason). fault_or number o (script_from_by later (number + 1) (after_line reading text) (lines_of rest))) right
-    ∙ ap (λ (r : Reading). script_from_by later (number + 1) r (lines_of rest)) after
+pub lines_read : (number : ℕ) (reading next : Reading) (text rest : List ℕ) (script : ScriptParts) → list_all is_line_byte text ≡ true
+    → reason_of reading (record { text = text; ended = true }) ≡ None → after_line reading text ≡ next
+    → script_from (number + 1) next (lines_of rest) ≡ Ok script → script_from number reading (lines_of (text ++ 10 ∷ rest)) ≡ Ok script
+unfolding script_from
+lines_read number reading next text rest script in-line right after others =
+    ap (script_from number reading) (lines_behind text rest in-line)
+    ∙ ap (λ (o : Option Reason). fault_or number o (script_from (number + 1) (after_line reading text) (lines_of rest))) right
+    ∙ ap (λ (r : Reading). script_from (number + 1) r (lines_of rest)) after
     ∙ others
 
-pub none_read : (later : IsLater) (number : ℕ) (reading : Reading) → script_from_by later number reading [] ≡ script_at_end number reading
-unfolding script_from_by
-none_read later number reading = refl
+pub none_read : (number : ℕ) (reading : Reading) → script_from number reading [] ≡ script_at_end number reading
+unfolding script_from
+none_read number reading = refl
 
-pub no_text_read : (later : IsLater) (number : ℕ) (reading : Reading) → script_from_by later number reading (lines_of []) ≡ script_at_end number reading
-no_text_read later number reading = ap (script_from_by later number reading) no_lines ∙ none_read later number reading
+pub no_text_read : (number : ℕ) (reading : Reading) → script_from number reading (lines_of []) ≡ script_at_end number reading
+no_text_read number reading = ap (script_from number reading) no_lines ∙ none_read number reading
 
 -- a script that was read
 abbrev pub right_script : ScriptParts → Result ScriptParts ScriptFault

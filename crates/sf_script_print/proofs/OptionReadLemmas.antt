@@ -17,11 +17,11 @@ use Rattle.sf_script.specs.LineForms.{LineForm, SetsOption, option_line}
 use Rattle.sf_script.specs.Lines.{is_line_byte, lines_of}
 use Rattle.sf_script.specs.OptionLines.{OptionParts, set_to, dedup_of, retention_of, option_of, option_rank, is_option_in_range, with_option, rank_of}
 use Rattle.sf_script.specs.Parts.{ScriptParts}
+use Rattle.sf_script.specs.Scripts.{script_from}
 use Rattle.sf_script.specs.Reasons.{is_misplaced, names_no_session, form_passes_limit, with_option_read, after_form, after_line}
 use Rattle.sf_script_calls.specs.Numbers.{is_digit, number_of}
 use Rattle.sf_script_calls.specs.Words.{first_word, is_word}
 use Rattle.sf_script_print.specs.Printing.{number_option, dedup_option, retention_option, printed_options}
-use Rattle.sf_script_print.specs.ScriptsBy.{IsLater, script_from_by}
 use Rattle.sf_script_print.proofs.LinesReadLemmas.{lines_read}
 use Rattle.sf_script_print.proofs.NumberTextLemmas.{number_text, is_of_digits}
 use Rattle.sf_script_print.proofs.OptionLineLemmas.{capacity_read, dedup_read, retention_read, retention_max_read, gather_read, dispensers_read}
@@ -106,10 +106,9 @@ later_rank read text option same e = by_test (nat_lt read.rank (rank_of option))
     by_test true is e = ltb-true read.rank (rank_of option) is
     by_test false is e = absurd cc
 
--- an option may be set to this, by a line that isn't later
-pub record CanSet (later : IsLater) (option : OptionLine) : Type 0 where
+-- an option may be set to this
+pub record CanSet (option : OptionLine) : Type 0 where
   pub range : is_option_in_range option ≡ true
-  pub played : later (SetsOption option) ≡ false
 
 -- a printed option's line isn't refused
 pub numbered_in_line : (word : List ℕ) (number : ℕ) → list_all is_line_byte word ≡ true → number < 2 ^ 64 → list_all is_line_byte (word ++ 32 ∷ decimal number) ≡ true
@@ -120,23 +119,22 @@ pub record IsPrintedOption (option : OptionLine) : Type 0 where
   read : option_line (option_text option) ≡ Some (SetsOption option)
 
 -- a printed option's line is read behind options that stand before it
-pub option_again : (later : IsLater) (read : OptionParts) (option : OptionLine) (rest : List ℕ) (script : ScriptParts) (number : ℕ) → CanSet later option → IsPrintedOption option → read.rank < rank_of option
-    → script_from_by later (number + 1) (reads.Options (with_option_read read option)) (lines_of rest) ≡ Ok script
-    → script_from_by later number (reads.Options read) (lines_of (option_text option ++ 10 ∷ rest)) ≡ Ok script
+pub option_again : (read : OptionParts) (option : OptionLine) (rest : List ℕ) (script : ScriptParts) (number : ℕ) → CanSet option → IsPrintedOption option → read.rank < rank_of option
+    → script_from (number + 1) (reads.Options (with_option_read read option)) (lines_of rest) ≡ Ok script
+    → script_from number (reads.Options read) (lines_of (option_text option ++ 10 ∷ rest)) ≡ Ok script
 unfolding names_no_session form_passes_limit
-option_again later read option rest script number can is rank others =
+option_again read option rest script number can is rank others =
     let reading = reads.Options read in
     let text = option_text option in
-    let right : IsRight later reading (record { text = text; ended = true }) = record {
+    let right : IsRight reading (record { text = text; ended = true }) = record {
       bytes = right_bytes text is.in_line;
       place = misplaced_option read option ∙ rw (lt-ltb read.rank (rank_of option) rank) refl;
       session = refl;
       form = ap (λ (o : Option LineForm). is_none o) is.read;
-      played = ap (λ (o : Option LineForm). option_map_or later o false) is.read ∙ can.played;
       limit = ap (λ (o : Option LineForm). option_map_or (form_passes_limit reading) o false) is.read ∙ ap not can.range;
     } in
     let after : after_line reading text ≡ reads.Options (with_option_read read option) = ap (λ (o : Option LineForm). option_map_or (after_form reading) o reading) is.read in
-    lines_read later number reading (reads.Options (with_option_read read option)) text rest script is.in_line (no_reason later reading (record { text = text; ended = true }) right) after others
+    lines_read number reading (reads.Options (with_option_read read option)) text rest script is.in_line (no_reason reading (record { text = text; ended = true }) right) after others
 
 -- the lines that can be printed
 pub printed_capacity : (number : ℕ) → is_option_in_range (Capacity number) ≡ true → IsPrintedOption (Capacity number)
@@ -172,14 +170,14 @@ pub printed_dedup : IsPrintedOption (Dedup false)
 printed_dedup = record { in_line = refl; read = dedup_read }
 
 -- options of a script that was read: each that isn't its default may be set so
-pub record AreSet (later : IsLater) (options : Options) : Type 0 where
-  pub capacity : (options.capacity == standard_options.capacity) ≡ false → CanSet later (Capacity options.capacity)
-  pub dedup : options.dedup ≡ false → CanSet later (Dedup false)
-  pub retention : options.max ≡ false → (options.retention == standard_options.retention) ≡ false → CanSet later (Retention options.retention)
-  pub max : options.max ≡ true → CanSet later RetentionMax
+pub record AreSet (options : Options) : Type 0 where
+  pub capacity : (options.capacity == standard_options.capacity) ≡ false → CanSet (Capacity options.capacity)
+  pub dedup : options.dedup ≡ false → CanSet (Dedup false)
+  pub retention : options.max ≡ false → (options.retention == standard_options.retention) ≡ false → CanSet (Retention options.retention)
+  pub max : options.max ≡ true → CanSet RetentionMax
   pub none_of_max : options.max ≡ true → options.retention ≡ 0
-  pub gather : (options.gather == standard_options.gather) ≡ false → CanSet later (Gather options.gather)
-  pub dispensers : (options.dispensers == standard_options.dispensers) ≡ false → CanSet later (Dispensers options.dispensers)
+  pub gather : (options.gather == standard_options.gather) ≡ false → CanSet (Gather options.gather)
+  pub dispensers : (options.dispensers == standard_options.dispensers) ≡ false → CanSet (Dispensers options.dispensers)
 
 -- options that stand behind the last that was set have their defaults
 pub record AreUnset (options : Options) (rank : ℕ) : Type 0 where
@@ -190,8 +188,8 @@ pub record AreUnset (options : Options) (rank : ℕ) : Type 0 where
   pub gather : rank < 4 → options.gather ≡ standard_options.gather
   pub dispensers : rank < 5 → options.dispensers ≡ standard_options.dispensers
 
-pub none_set : (later : IsLater) → AreSet later standard_options
-none_set later = record {
+pub none_set : AreSet standard_options
+none_set = record {
   capacity = λ is. absurd cc;
   dedup = λ is. absurd cc;
   retention = λ max is. absurd cc;
@@ -234,13 +232,13 @@ no_dedup_size : (o : Options) → o.dedup ≡ true → length (dedup_option o.de
 no_dedup_size o is = ap (λ (test : Bool). length (dedup_option test)) is
 
 -- options with one more set
-pub record IsSetNext (later : IsLater) (before : Options) (option : OptionLine) : Type 0 where
-  pub set : AreSet later (with_option before option)
+pub record IsSetNext (before : Options) (option : OptionLine) : Type 0 where
+  pub set : AreSet (with_option before option)
   pub unset : AreUnset (with_option before option) (rank_of option)
   pub size : length (printed_options (with_option before option)) ≤ length (printed_options before) + length (option_text option) + 1
 
-pub set_next : (later : IsLater) (o : Options) (rank : ℕ) (option : OptionLine) → AreSet later o → AreUnset o rank → rank < rank_of option → CanSet later option → IsSetNext later o option
-set_next later o rank (Capacity number) set unset lt can = record {
+pub set_next : (o : Options) (rank : ℕ) (option : OptionLine) → AreSet o → AreUnset o rank → rank < rank_of option → CanSet option → IsSetNext o option
+set_next o rank (Capacity number) set unset lt can = record {
   set = record { capacity = λ is. can; dedup = set.dedup; retention = set.retention; max = set.max; none_of_max = set.none_of_max; gather = set.gather; dispensers = set.dispensers };
   unset = record {
     capacity = λ l. absurd (omega arith);
@@ -252,7 +250,7 @@ set_next later o rank (Capacity number) set unset lt can = record {
   };
   size = omega (arith, options_size o, options_size (with_option o (Capacity number)), number_size (codes "capacity") number standard_options.capacity, length-append (codes "capacity") (32 ∷ decimal number));
 }
-set_next later o rank (Dedup true) set unset lt can = record {
+set_next o rank (Dedup true) set unset lt can = record {
   set = record { capacity = set.capacity; dedup = λ is. absurd cc; retention = set.retention; max = set.max; none_of_max = set.none_of_max; gather = set.gather; dispensers = set.dispensers };
   unset = record {
     capacity = λ l. absurd (omega arith);
@@ -264,7 +262,7 @@ set_next later o rank (Dedup true) set unset lt can = record {
   };
   size = omega (arith, options_size o, options_size (with_option o (Dedup true)));
 }
-set_next later o rank (Dedup false) set unset lt can = record {
+set_next o rank (Dedup false) set unset lt can = record {
   set = record { capacity = set.capacity; dedup = λ is. can; retention = set.retention; max = set.max; none_of_max = set.none_of_max; gather = set.gather; dispensers = set.dispensers };
   unset = record {
     capacity = λ l. absurd (omega arith);
@@ -276,7 +274,7 @@ set_next later o rank (Dedup false) set unset lt can = record {
   };
   size = omega (arith, options_size o, options_size (with_option o (Dedup false)));
 }
-set_next later o rank (Retention number) set unset lt can = record {
+set_next o rank (Retention number) set unset lt can = record {
   set = record { capacity = set.capacity; dedup = set.dedup; retention = λ max is. can; max = λ is. absurd cc; none_of_max = λ is. absurd cc; gather = set.gather; dispensers = set.dispensers };
   unset = record {
     capacity = λ l. absurd (omega arith);
@@ -288,7 +286,7 @@ set_next later o rank (Retention number) set unset lt can = record {
   };
   size = omega (arith, options_size o, options_size (with_option o (Retention number)), number_size (codes "retention") number standard_options.retention, length-append (codes "retention") (32 ∷ decimal number));
 }
-set_next later o rank RetentionMax set unset lt can = record {
+set_next o rank RetentionMax set unset lt can = record {
   set = record { capacity = set.capacity; dedup = set.dedup; retention = λ max is. absurd cc; max = λ is. can; none_of_max = λ is. refl; gather = set.gather; dispensers = set.dispensers };
   unset = record {
     capacity = λ l. absurd (omega arith);
@@ -300,7 +298,7 @@ set_next later o rank RetentionMax set unset lt can = record {
   };
   size = omega (arith, options_size o, options_size (with_option o RetentionMax));
 }
-set_next later o rank (Gather number) set unset lt can = record {
+set_next o rank (Gather number) set unset lt can = record {
   set = record { capacity = set.capacity; dedup = set.dedup; retention = set.retention; max = set.max; none_of_max = set.none_of_max; gather = λ is. can; dispensers = set.dispensers };
   unset = record {
     capacity = λ l. absurd (omega arith);
@@ -312,7 +310,7 @@ set_next later o rank (Gather number) set unset lt can = record {
   };
   size = omega (arith, options_size o, options_size (with_option o (Gather number)), number_size (codes "gather") number standard_options.gather, length-append (codes "gather") (32 ∷ decimal number));
 }
-set_next later o rank (Dispensers number) set unset lt can = record {
+set_next o rank (Dispensers number) set unset lt can = record {
   set = record { capacity = set.capacity; dedup = set.dedup; retention = set.retention; max = set.max; none_of_max = set.none_of_max; gather = set.gather; dispensers = λ is. can };
   unset = record {
     capacity = λ l. absurd (omega arith);

@@ -9,33 +9,21 @@ use Rattle.sf_types.specs.declared.options.Options.{Options}
 use Rattle.sf_types.proofs.BoolLemmas.{neither-first}
 use Rattle.sf_types.proofs.NumberLemmas.{not_less}
 use Rattle.sf_script.specs.declared.fault.Reason.{Reason}
-use Rattle.sf_script.specs.declared.fault.Reason.TheVariants.{Bytes, Place, Session, Form, Later, Limit}
+use Rattle.sf_script.specs.declared.fault.Reason.TheVariants.{Bytes, Place, Session, Form, Limit}
 use Rattle.sf_script.specs.declared.reading.Reading.{Reading}
 use Rattle.sf_script.specs.declared.reading.Reading.TheVariants as reads
-use Rattle.sf_script.specs.declared.turn.Turn.{Turn}
-use Rattle.sf_script.specs.LineForms.{LineForm, CallLine, ScheduleLine, form_of, call_line}
+use Rattle.sf_script.specs.LineForms.{LineForm, CallLine, form_of, call_line}
 use Rattle.sf_script.specs.Lines.{Line, is_line_byte}
 use Rattle.sf_script.specs.Parts.{ScriptParts}
-use Rattle.sf_script.specs.Provisional.Lines.{is_played_call}
-use Rattle.sf_script.specs.Reasons.{has_wrong_bytes, is_misplaced, names_no_session, has_no_form, passes_limit, passes_call_limit, form_passes_limit, first_reason, with_call, after_form, after_line}
+use Rattle.sf_script.specs.Reasons.{has_wrong_bytes, is_misplaced, names_no_session, has_no_form, passes_limit, passes_call_limit, form_passes_limit, first_reason, with_call, after_form, after_line, reason_of}
 use Rattle.sf_script.specs.Schedules.{ends_with_colon, session_of}
 use Rattle.sf_script_calls.specs.CallTable.{call_form}
 use Rattle.sf_script_calls.specs.Calls.{CallForm, spelled_call, payload_length}
 use Rattle.sf_script_calls.specs.Reads.{◌>>=◌}
 use Rattle.sf_script_calls.specs.Words.{first_word, word_at, is_word}
 use Rattle.sf_script_print.specs.PrintedCalls.{printed_call}
-use Rattle.sf_script_print.specs.ScriptsBy.{IsLater, reason_by}
 use Rattle.sf_script_print.proofs.PayloadTextLemmas.{read_field}
 use Rattle.sf_script_print.proofs.CallLineLemmas.{call_line_parts, session_word, IsPrintedLine, printed_line}
-
--- what later lines have in common: calls of one kind are later or not, and so are schedule lines
-pub record AreAlike (later : IsLater) : Type 0 where
-  pub calls : (session : ℕ) (form next : CallForm) → is_played_call next ≡ is_played_call form → later (CallLine session next) ≡ later (CallLine session form)
-  pub schedules : (turns next : List Turn) → later (ScheduleLine next) ≡ later (ScheduleLine turns)
-
--- whether a line is later
-abbrev pub line_is_later : IsLater → Reading → List ℕ → Bool
-line_is_later later reading text = option_map_or later (form_of reading text) false
 
 -- no reason of a table holds
 first_none : (holds : Bool) (reason : Reason) (table : List (Bool × Reason)) → first_reason ((holds, reason) ∷ table) ≡ None → (holds ≡ false) × (first_reason table ≡ None)
@@ -43,27 +31,25 @@ first_none true reason table e = absurd cc
 first_none false reason table e = (refl, e)
 
 -- a line that isn't refused
-pub record IsRight (later : IsLater) (reading : Reading) (line : Line) : Type 0 where
+pub record IsRight (reading : Reading) (line : Line) : Type 0 where
   pub bytes : has_wrong_bytes line ≡ false
   pub place : is_misplaced reading line.text ≡ false
   pub session : names_no_session reading line.text ≡ false
   pub form : has_no_form reading line.text ≡ false
-  pub played : line_is_later later reading line.text ≡ false
   pub limit : passes_limit reading line.text ≡ false
 
-pub is_right : (later : IsLater) (reading : Reading) (line : Line) → reason_by later reading line ≡ None → IsRight later reading line
-is_right later reading line e =
-    let f = (line_is_later later reading line.text, Later) ∷ (passes_limit reading line.text, Limit) ∷ [] in
+pub is_right : (reading : Reading) (line : Line) → reason_of reading line ≡ None → IsRight reading line
+is_right reading line e =
+    let f = (passes_limit reading line.text, Limit) ∷ [] in
     let a = first_none (has_wrong_bytes line) Bytes ((is_misplaced reading line.text, Place) ∷ (names_no_session reading line.text, Session) ∷ (has_no_form reading line.text, Form) ∷ f) e in
     let b = first_none (is_misplaced reading line.text) Place ((names_no_session reading line.text, Session) ∷ (has_no_form reading line.text, Form) ∷ f) a.1 in
     let d = first_none (names_no_session reading line.text) Session ((has_no_form reading line.text, Form) ∷ f) b.1 in
     let g = first_none (has_no_form reading line.text) Form f d.1 in
-    let h = first_none (line_is_later later reading line.text) Later ((passes_limit reading line.text, Limit) ∷ []) g.1 in
-    let i = first_none (passes_limit reading line.text) Limit [] h.1 in
-    record { bytes = a.0; place = b.0; session = d.0; form = g.0; played = h.0; limit = i.0 }
+    let h = first_none (passes_limit reading line.text) Limit [] g.1 in
+    record { bytes = a.0; place = b.0; session = d.0; form = g.0; limit = h.0 }
 
-pub no_reason : (later : IsLater) (reading : Reading) (line : Line) → IsRight later reading line → reason_by later reading line ≡ None
-no_reason later reading line is = rw (is.bytes, is.place, is.session, is.form, is.played, is.limit) refl
+pub no_reason : (reading : Reading) (line : Line) → IsRight reading line → reason_of reading line ≡ None
+no_reason reading line is = rw (is.bytes, is.place, is.session, is.form, is.limit) refl
 
 -- its bytes, and the line feed behind it
 pub line_parts : (line : Line) → has_wrong_bytes line ≡ false → (line.ended ≡ true) × (list_all is_line_byte line.text ≡ true)
@@ -80,19 +66,18 @@ unfolding has_wrong_bytes
 right_bytes text all = rw all refl
 
 -- its form
-pub record HasForm (later : IsLater) (reading : Reading) (text : List ℕ) : Type 0 where
+pub record HasForm (reading : Reading) (text : List ℕ) : Type 0 where
   pub form : LineForm
   pub is : form_of reading text ≡ Some form
-  pub played : later form ≡ false
   pub limit : form_passes_limit reading form ≡ false
   pub after : after_line reading text ≡ after_form reading form
 
-pub has_form : (later : IsLater) (reading : Reading) (line : Line) → IsRight later reading line → HasForm later reading line.text
-has_form later reading line is = go (form_of reading line.text) refl is.form is.played is.limit
+pub has_form : (reading : Reading) (line : Line) → IsRight reading line → HasForm reading line.text
+has_form reading line is = go (form_of reading line.text) refl is.form is.limit
   where
-    go : (o : Option LineForm) → form_of reading line.text ≡ o → is_none o ≡ false → option_map_or later o false ≡ false → option_map_or (form_passes_limit reading) o false ≡ false → HasForm later reading line.text
-    go (Some form) e some played limit = record { form = form; is = e; played = played; limit = limit; after = ap (λ (o : Option LineForm). option_map_or (after_form reading) o reading) e }
-    go None e some played limit = absurd cc
+    go : (o : Option LineForm) → form_of reading line.text ≡ o → is_none o ≡ false → option_map_or (form_passes_limit reading) o false ≡ false → HasForm reading line.text
+    go (Some form) e some limit = record { form = form; is = e; limit = limit; after = ap (λ (o : Option LineForm). option_map_or (after_form reading) o reading) e }
+    go None e some limit = absurd cc
 
 -- the call of a call's line
 record IsCall (sessions : ℕ) (text : List ℕ) (line : LineForm) : Type 0 where
@@ -115,23 +100,23 @@ abbrev pub script_with : Options → ℕ → List (List Call) → ScriptParts
 script_with options sessions calls = record { options = options; sessions = sessions; calls = calls; turns = [] }
 
 -- a session's call whose printed line is read wherever the limits leave room
-pub record IsPrintable (later : IsLater) (sessions session : ℕ) (call : Call) : Type 0 where
+pub record IsPrintable (sessions session : ℕ) (call : Call) : Type 0 where
   pub line : List ℕ
   pub printed : printed_call session call ≡ line ++ 10 ∷ []
   pub in_line : list_all is_line_byte line ≡ true
   pub short : payload_length call ≤ BUFFER_BYTES
-  pub right : (options : Options) (calls : List (List Call)) → passes_call_limit (script_with options sessions calls) (payload_length call) ≡ false → reason_by later (reads.Sessions (script_with options sessions calls)) (record { text = line; ended = true }) ≡ None
+  pub right : (options : Options) (calls : List (List Call)) → passes_call_limit (script_with options sessions calls) (payload_length call) ≡ false → reason_of (reads.Sessions (script_with options sessions calls)) (record { text = line; ended = true }) ≡ None
   pub after : (options : Options) (calls : List (List Call)) → after_line (reads.Sessions (script_with options sessions calls)) line ≡ reads.Sessions (with_call (script_with options sessions calls) session call)
 
 -- a call that was read
-pub record IsCallRead (later : IsLater) (options : Options) (sessions : ℕ) (calls : List (List Call)) (text : List ℕ) : Type 0 where
+pub record IsCallRead (options : Options) (sessions : ℕ) (calls : List (List Call)) (text : List ℕ) : Type 0 where
   pub session : ℕ
   pub call : Call
   pub low : 1 ≤ session
   pub high : session ≤ sessions
   pub room : passes_call_limit (script_with options sessions calls) (payload_length call) ≡ false
   pub after : after_line (reads.Sessions (script_with options sessions calls)) text ≡ reads.Sessions (with_call (script_with options sessions calls) session call)
-  pub again : IsPrintable later sessions session call
+  pub again : IsPrintable sessions session call
   pub size : length again.line ≤ length text
 
 pub small_payload : (parts : ScriptParts) (bytes : ℕ) → passes_call_limit parts bytes ≡ false → bytes ≤ BUFFER_BYTES
@@ -152,12 +137,12 @@ limit_of_call : (parts : ScriptParts) (session : ℕ) (form : CallForm) → form
 unfolding form_passes_limit
 limit_of_call parts session form = refl
 
-right_again : (later : IsLater) (alike : AreAlike later) (options others : Options) (sessions : ℕ) (calls more : List (List Call)) (text : List ℕ) (session : ℕ) (form : CallForm) (made : IsPrintedLine sessions text session form)
+right_again : (options others : Options) (sessions : ℕ) (calls more : List (List Call)) (text : List ℕ) (session : ℕ) (form : CallForm) (made : IsPrintedLine sessions text session form)
     → is_word (codes "schedule") (first_word text) ≡ false → list_all is_line_byte text ≡ true
     → is_misplaced (reads.Sessions (script_with options sessions calls)) text ≡ false → names_no_session (reads.Sessions (script_with options sessions calls)) text ≡ false
-    → later (CallLine session form) ≡ false → passes_call_limit (script_with others sessions more) (payload_length (spelled_call form)) ≡ false
-    → IsRight later (reads.Sessions (script_with others sessions more)) (record { text = made.line; ended = true })
-right_again later alike options others sessions calls more text session form made none in-text place named played limit =
+    → passes_call_limit (script_with others sessions more) (payload_length (spelled_call form)) ≡ false
+    → IsRight (reads.Sessions (script_with others sessions more)) (record { text = made.line; ended = true })
+right_again options others sessions calls more text session form made none in-text place named limit =
     let before = script_with options sessions calls in
     let parts = script_with others sessions more in
     let none-here : is_word (codes "schedule") (first_word made.line) ≡ false = ap (is_word (codes "schedule")) made.first ∙ none in
@@ -168,7 +153,6 @@ right_again later alike options others sessions calls more text session form mad
       place = same_place sessions options others calls more text made.line made.first ∙ place;
       session = by_session parts made.line none-here ∙ ap (λ (w : List ℕ). is_none (session_of sessions w)) made.first ∙ sym (by_session before text none) ∙ named;
       form = ap (λ (o : Option LineForm). is_none o) read;
-      played = ap (λ (o : Option LineForm). option_map_or later o false) read ∙ alike.calls session form made.next made.kind ∙ played;
       limit = ap (λ (o : Option LineForm). option_map_or (form_passes_limit reading) o false) read ∙ limit_of_call parts session made.next ∙ ap (λ (c : Call). passes_call_limit parts (payload_length c)) made.same ∙ limit;
     }
 
@@ -182,17 +166,16 @@ after_again options sessions calls text session form made none =
     let read : form_of reading made.line ≡ Some (CallLine session made.next) = form_by_call parts made.line none-here ∙ made.read in
     ap (λ (o : Option LineForm). option_map_or (after_form reading) o reading) read ∙ ap (λ (c : Call). reads.Sessions (with_call parts session c)) made.same
 
-pub call_read : (later : IsLater) (alike : AreAlike later) (options : Options) (sessions : ℕ) (calls : List (List Call)) (line : Line)
-    → IsRight later (reads.Sessions (script_with options sessions calls)) line → is_word (codes "schedule") (first_word line.text) ≡ false
-    → IsCallRead later options sessions calls line.text
-call_read later alike options sessions calls line right none =
+pub call_read : (options : Options) (sessions : ℕ) (calls : List (List Call)) (line : Line)
+    → IsRight (reads.Sessions (script_with options sessions calls)) line → is_word (codes "schedule") (first_word line.text) ≡ false
+    → IsCallRead options sessions calls line.text
+call_read options sessions calls line right none =
     let parts = script_with options sessions calls in
-    let form = has_form later (reads.Sessions parts) line right in
+    let form = has_form (reads.Sessions parts) line right in
     let found = call_of sessions line.text form.form (sym (form_by_call parts line.text none) ∙ form.is) in
     let session = found.session in
     let call = found.form in
     let in-text = (line_parts line right.bytes).1 in
-    let is-played : later (CallLine session call) ≡ false = ap later (sym found.is) ∙ form.played in
     let limit : form_passes_limit (reads.Sessions parts) (CallLine session call) ≡ false = ap (form_passes_limit (reads.Sessions parts)) (sym found.is) ∙ form.limit in
     let room = sym (limit_of_call parts session call) ∙ limit in
     let short = small_payload parts (payload_length (spelled_call call)) room in
@@ -212,8 +195,8 @@ call_read later alike options sessions calls line right none =
         in_line = made.in_line in-text;
         short = short;
         right = λ others more left.
-            no_reason later (reads.Sessions (script_with others sessions more)) (record { text = made.line; ended = true })
-            (right_again later alike options others sessions calls more line.text session call made none in-text right.place right.session is-played left);
+            no_reason (reads.Sessions (script_with others sessions more)) (record { text = made.line; ended = true })
+            (right_again options others sessions calls more line.text session call made none in-text right.place right.session left);
         after = λ others more. after_again others sessions more line.text session call made none;
       };
       size = made.size;

@@ -21,6 +21,7 @@ use Rattle.sf_script.specs.declared.turn.Turn.TheVariants as turn_kinds
 use Rattle.sf_script.specs.LineForms.{LineForm, ScheduleLine, form_of, schedule_line}
 use Rattle.sf_script.specs.Lines.{Line, is_line_byte, lines_of}
 use Rattle.sf_script.specs.Parts.{ScriptParts, names_session}
+use Rattle.sf_script.specs.Scripts.{script_from}
 use Rattle.sf_script.specs.Reasons.{is_misplaced, names_no_session, form_passes_limit, passes_turn_limit, with_turns, after_form, after_line}
 use Rattle.sf_script.specs.Schedules.{ends_with_colon, session_number, turn_of, are_turns, turns_of, schedule_words}
 use Rattle.sf_script_calls.specs.Numbers.{is_digit, is_empty_list, number_of}
@@ -28,12 +29,11 @@ use Rattle.sf_script_calls.specs.Reads.{◌>>=◌}
 use Rattle.sf_script_calls.specs.Words.{is_space, first_word, parts_of, is_word}
 use Rattle.sf_script_print.specs.PrintedCalls.{spaced}
 use Rattle.sf_script_print.specs.Printing.{turn_word, printed_turns}
-use Rattle.sf_script_print.specs.ScriptsBy.{IsLater, script_from_by}
 use Rattle.sf_script_print.proofs.LinesReadLemmas.{line_read, lines_read, none_read, no_text_read, same_script}
 use Rattle.sf_script_print.proofs.NumberTextLemmas.{number_text, is_of_digits}
 use Rattle.sf_script_print.proofs.PayloadSizeLemmas.{all_pass, both_all, digit_in_line}
 use Rattle.sf_script_print.proofs.PayloadTextLemmas.{read_field}
-use Rattle.sf_script_print.proofs.RightLineLemmas.{AreAlike, IsRight, no_reason, has_form, line_parts, right_bytes, script_with}
+use Rattle.sf_script_print.proofs.RightLineLemmas.{IsRight, no_reason, has_form, line_parts, right_bytes, script_with}
 use Rattle.sf_script_print.proofs.ScheduleLemmas.{schedule_read, schedule_words_read}
 use Rattle.sf_script_print.proofs.TextLineLemmas.{lines_size, ended_size}
 use Rattle.sf_script_print.proofs.WordLemmas.{first_of_cut, spelled}
@@ -116,11 +116,10 @@ spaced_text : (text : List ℕ) → text ≡ first_word text ++ spaced (schedule
 spaced_text text = sym (join_with_byte-slice_split 32 text) ∙ ap (join_with_byte 32) (parts_are text) ∙ spaced_parts (first_word text) (schedule_words text)
 
 -- a schedule line that was read
-pub record IsScheduleRead (later : IsLater) (parts : ScriptParts) (text : List ℕ) : Type 0 where
+pub record IsScheduleRead (parts : ScriptParts) (text : List ℕ) : Type 0 where
   pub turns : List Turn
   pub some : 1 ≤ length turns
   pub named : list_all (names_session parts.sessions) turns ≡ true
-  pub played : later (ScheduleLine turns) ≡ false
   pub room : length parts.turns + length turns ≤ SCRIPT_TURNS
   pub size : length text ≡ 8 + length (spaced (map turn_word turns))
   pub after : after_line (reads.Sessions parts) text ≡ reads.Sessions (with_turns parts turns)
@@ -136,11 +135,11 @@ some_turns words (turn ∷ turns) some e = omega arith
 form_by_schedule : (parts : ScriptParts) (text : List ℕ) → is_word (codes "schedule") (first_word text) ≡ true → form_of (reads.Sessions parts) text ≡ schedule_line parts.sessions text
 form_by_schedule parts text first = rw first refl
 
-pub schedule_line_read : (later : IsLater) (parts : ScriptParts) (line : Line) → IsRight later (reads.Sessions parts) line → is_word (codes "schedule") (first_word line.text) ≡ true → IsScheduleRead later parts line.text
+pub schedule_line_read : (parts : ScriptParts) (line : Line) → IsRight (reads.Sessions parts) line → is_word (codes "schedule") (first_word line.text) ≡ true → IsScheduleRead parts line.text
 unfolding schedule_line
-schedule_line_read later parts line right first =
+schedule_line_read parts line right first =
     let reading = reads.Sessions parts in
-    let form = has_form later reading line right in
+    let form = has_form reading line right in
     let words = schedule_words line.text in
     let p = cond_some (not (is_empty_list words) && are_turns parts.sessions words) (ScheduleLine (turns_of parts.sessions words)) form.form (sym (form_by_schedule parts line.text first) ∙ form.is) in
     let both = and_parts (not (is_empty_list words)) (are_turns parts.sessions words) p.0 in
@@ -153,20 +152,18 @@ schedule_line_read later parts line right first =
       turns = turns;
       some = some_turns words turns both.0 are.words_are;
       named = are.named;
-      played = ap later p.1 ∙ form.played;
       room = not_less SCRIPT_TURNS (length parts.turns + length turns) limit;
       size = omega (arith, ap length text_is, length-append (codes "schedule") (spaced (map turn_word turns)));
       after = form.after ∙ ap (after_form reading) (sym p.1);
     }
 
 -- a schedule that is printed in one line
-pub record IsSchedule (later : IsLater) (sessions : ℕ) (turns : List Turn) : Type 0 where
+pub record IsSchedule (sessions : ℕ) (turns : List Turn) : Type 0 where
   pub named : list_all (names_session sessions) turns ≡ true
   pub few : length turns ≤ SCRIPT_TURNS
-  pub played : 1 ≤ length turns → later (ScheduleLine turns) ≡ false
 
-pub no_schedule : (later : IsLater) (sessions : ℕ) → IsSchedule later sessions []
-no_schedule later sessions = record { named = refl; few = omega arith; played = λ some. absurd (omega arith) }
+pub no_schedule : (sessions : ℕ) → IsSchedule sessions []
+no_schedule sessions = record { named = refl; few = omega arith }
 
 pub no_turns_size : length (printed_turns []) ≡ 0
 unfolding printed_turns
@@ -184,10 +181,10 @@ more_size turns more =
     ∙ length-append (spaced (map turn_word turns)) (spaced (map turn_word more))
 
 -- what schedule lines add to the turns before them
-pub record AreTurnsRead (later : IsLater) (options : Options) (sessions : ℕ) (calls : List (List Call)) (before : List Turn) (lines : List Line) (script : ScriptParts) : Type 0 where
+pub record AreTurnsRead (options : Options) (sessions : ℕ) (calls : List (List Call)) (before : List Turn) (lines : List Line) (script : ScriptParts) : Type 0 where
   pub turns : List Turn
   pub is : scheduled options sessions calls turns ≡ script
-  pub schedule : IsSchedule later sessions turns
+  pub schedule : IsSchedule sessions turns
   pub size : length (printed_turns turns) ≤ 9 + length (spaced (map turn_word before)) + lines_size lines
 
 -- behind a schedule line only such lines stand
@@ -200,27 +197,26 @@ only_schedule parts text some e = by_turns parts.turns some (is_word (codes "sch
     by_turns (turn ∷ turns) some true e = refl
     by_turns (turn ∷ turns) some false e = absurd cc
 
-pub turn_lines_read : (later : IsLater) (alike : AreAlike later) (options : Options) (sessions : ℕ) (calls : List (List Call)) (before : List Turn) (lines : List Line) (script : ScriptParts) (number : ℕ)
-    → 1 ≤ length before → list_all (names_session sessions) before ≡ true → later (ScheduleLine before) ≡ false → length before ≤ SCRIPT_TURNS
-    → script_from_by later number (reads.Sessions (scheduled options sessions calls before)) lines ≡ Ok script → AreTurnsRead later options sessions calls before lines script
-turn_lines_read later alike options sessions calls before [] script number some named played few e = record {
+pub turn_lines_read : (options : Options) (sessions : ℕ) (calls : List (List Call)) (before : List Turn) (lines : List Line) (script : ScriptParts) (number : ℕ)
+    → 1 ≤ length before → list_all (names_session sessions) before ≡ true → length before ≤ SCRIPT_TURNS
+    → script_from number (reads.Sessions (scheduled options sessions calls before)) lines ≡ Ok script → AreTurnsRead options sessions calls before lines script
+turn_lines_read options sessions calls before [] script number some named few e = record {
   turns = before;
-  is = same_script (scheduled options sessions calls before) script (sym (none_read later number (reads.Sessions (scheduled options sessions calls before))) ∙ e);
-  schedule = record { named = named; few = few; played = λ any. played };
+  is = same_script (scheduled options sessions calls before) script (sym (none_read number (reads.Sessions (scheduled options sessions calls before))) ∙ e);
+  schedule = record { named = named; few = few };
   size = omega (arith, turns_size before some);
 }
-turn_lines_read later alike options sessions calls before (line ∷ lines) script number some named played few e =
+turn_lines_read options sessions calls before (line ∷ lines) script number some named few e =
     let parts = scheduled options sessions calls before in
-    let p = line_read later number (reads.Sessions parts) line lines script e in
-    let one = schedule_line_read later parts line p.0 (only_schedule parts line.text some p.0.place) in
+    let p = line_read number (reads.Sessions parts) line lines script e in
+    let one = schedule_line_read parts line p.0 (only_schedule parts line.text some p.0.place) in
     let both = before ++ one.turns in
     let sizes = length-append before one.turns in
-    let rest = turn_lines_read later alike options sessions calls both lines script (number + 1)
+    let rest = turn_lines_read options sessions calls both lines script (number + 1)
     (omega (arith, sizes))
     (list_all-append (names_session sessions) before one.turns ∙ rw (named, one.named) refl)
-    (alike.schedules before both ∙ played)
     (omega (arith, sizes, one.room))
-    (ap (λ (r : Reading). script_from_by later (number + 1) r lines) (sym one.after) ∙ p.1) in
+    (ap (λ (r : Reading). script_from (number + 1) r lines) (sym one.after) ∙ p.1) in
     record {
       turns = rest.turns;
       is = rest.is;
@@ -252,11 +248,11 @@ schedule_sessions : (parts : ScriptParts) (text : List ℕ) → is_word (codes "
 unfolding names_no_session
 schedule_sessions parts text first all = rw (first, all) refl
 
-schedule_right : (later : IsLater) (parts : ScriptParts) (turn : Turn) (turns : List Turn) → parts.sessions < 2 ^ 64 → list_all (names_session parts.sessions) (turn ∷ turns) ≡ true
-    → later (ScheduleLine (turn ∷ turns)) ≡ false → length parts.turns + length (turn ∷ turns) ≤ SCRIPT_TURNS
-    → IsRight later (reads.Sessions parts) (record { text = codes "schedule" ++ spaced (map turn_word (turn ∷ turns)); ended = true })
+schedule_right : (parts : ScriptParts) (turn : Turn) (turns : List Turn) → parts.sessions < 2 ^ 64 → list_all (names_session parts.sessions) (turn ∷ turns) ≡ true
+    → length parts.turns + length (turn ∷ turns) ≤ SCRIPT_TURNS
+    → IsRight (reads.Sessions parts) (record { text = codes "schedule" ++ spaced (map turn_word (turn ∷ turns)); ended = true })
 unfolding is_word
-schedule_right later parts turn turns small named played few =
+schedule_right parts turn turns small named few =
     let words = map turn_word (turn ∷ turns) in
     let text = codes "schedule" ++ spaced words in
     let reading = reads.Sessions parts in
@@ -267,21 +263,20 @@ schedule_right later parts turn turns small named played few =
       place = schedule_place parts text first;
       session = schedule_sessions parts text first (schedule_words_read parts.sessions turn turns small named);
       form = ap (λ (o : Option LineForm). is_none o) form;
-      played = ap (λ (o : Option LineForm). option_map_or later o false) form ∙ played;
       limit = ap (λ (o : Option LineForm). option_map_or (form_passes_limit reading) o false) form ∙ limit_of_turns parts (turn ∷ turns) ∙ le-ltb SCRIPT_TURNS (length parts.turns + length (turn ∷ turns)) few;
     }
 
 -- a printed schedule is read behind the calls
-pub schedule_again : (later : IsLater) (options : Options) (sessions : ℕ) (calls : List (List Call)) (turns : List Turn) (number : ℕ) → sessions < 2 ^ 64 → IsSchedule later sessions turns
-    → script_from_by later number (reads.Sessions (script_with options sessions calls)) (lines_of (printed_turns turns)) ≡ Ok (scheduled options sessions calls turns)
+pub schedule_again : (options : Options) (sessions : ℕ) (calls : List (List Call)) (turns : List Turn) (number : ℕ) → sessions < 2 ^ 64 → IsSchedule sessions turns
+    → script_from number (reads.Sessions (script_with options sessions calls)) (lines_of (printed_turns turns)) ≡ Ok (scheduled options sessions calls turns)
 unfolding printed_turns
-schedule_again later options sessions calls [] number small is = no_text_read later number (reads.Sessions (script_with options sessions calls))
-schedule_again later options sessions calls (turn ∷ turns) number small is =
+schedule_again options sessions calls [] number small is = no_text_read number (reads.Sessions (script_with options sessions calls))
+schedule_again options sessions calls (turn ∷ turns) number small is =
     let parts = script_with options sessions calls in
     let next = scheduled options sessions calls (turn ∷ turns) in
     let text = codes "schedule" ++ spaced (map turn_word (turn ∷ turns)) in
-    let right = schedule_right later parts turn turns small is.named (is.played (omega arith)) (omega (arith, is.few)) in
+    let right = schedule_right parts turn turns small is.named (omega (arith, is.few)) in
     let after : after_line (reads.Sessions parts) text ≡ reads.Sessions next = ap (λ (o : Option LineForm). option_map_or (after_form (reads.Sessions parts)) o (reads.Sessions parts)) (schedule_read parts turn turns small is.named) in
-    lines_read later number (reads.Sessions parts) (reads.Sessions next) text [] next (words_in_line sessions (turn ∷ turns) small is.named)
-    (no_reason later (reads.Sessions parts) (record { text = text; ended = true }) right) after
-    (no_text_read later (number + 1) (reads.Sessions next))
+    lines_read number (reads.Sessions parts) (reads.Sessions next) text [] next (words_in_line sessions (turn ∷ turns) small is.named)
+    (no_reason (reads.Sessions parts) (record { text = text; ended = true }) right) after
+    (no_text_read (number + 1) (reads.Sessions next))

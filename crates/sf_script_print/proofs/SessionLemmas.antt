@@ -17,14 +17,14 @@ use Rattle.sf_script.specs.declared.reading.Reading.TheVariants as reads
 use Rattle.sf_script.specs.declared.turn.Turn.{Turn}
 use Rattle.sf_script.specs.Lines.{Line, lines_of}
 use Rattle.sf_script.specs.Parts.{ScriptParts, call_count, payload_bytes}
+use Rattle.sf_script.specs.Scripts.{script_from}
 use Rattle.sf_script.specs.Reasons.{after_line, with_call, passes_call_limit}
 use Rattle.sf_script_calls.specs.Calls.{payload_length}
 use Rattle.sf_script_calls.specs.Words.{first_word, is_word}
 use Rattle.sf_script_print.specs.PrintedCalls.{printed_call}
 use Rattle.sf_script_print.specs.Printing.{printed_calls, printed_sessions, printed_turns}
-use Rattle.sf_script_print.specs.ScriptsBy.{IsLater, script_from_by}
 use Rattle.sf_script_print.proofs.LinesReadLemmas.{line_read, lines_read, none_read, same_script}
-use Rattle.sf_script_print.proofs.RightLineLemmas.{AreAlike, IsRight, script_with, IsPrintable, call_read, line_parts}
+use Rattle.sf_script_print.proofs.RightLineLemmas.{IsRight, script_with, IsPrintable, call_read, line_parts}
 use Rattle.sf_script_print.proofs.ScheduleReadLemmas.{scheduled, IsSchedule, no_schedule, no_turns_size, schedule_line_read, turn_lines_read}
 use Rattle.sf_script_print.proofs.TextLineLemmas.{lines_size, ended_size}
 
@@ -33,24 +33,24 @@ abbrev pub put : List (List Call) → ℕ → Call → List (List Call)
 put calls at call = slice_set calls at (slice_index_or calls at [] ++ call ∷ [])
 
 -- each call of a session, and of this session and those behind it
-abbrev pub AllCalls : IsLater → ℕ → ℕ → List Call → Type 0
-AllCalls later sessions session [] = Unit {0}
-AllCalls later sessions session (call ∷ calls) = IsPrintable later sessions session call × AllCalls later sessions session calls
+abbrev pub AllCalls : ℕ → ℕ → List Call → Type 0
+AllCalls sessions session [] = Unit {0}
+AllCalls sessions session (call ∷ calls) = IsPrintable sessions session call × AllCalls sessions session calls
 
-abbrev pub AllSessions : IsLater → ℕ → ℕ → List (List Call) → Type 0
-AllSessions later sessions session [] = Unit {0}
-AllSessions later sessions session (calls ∷ others) = AllCalls later sessions session calls × AllSessions later sessions (session + 1) others
+abbrev pub AllSessions : ℕ → ℕ → List (List Call) → Type 0
+AllSessions sessions session [] = Unit {0}
+AllSessions sessions session (calls ∷ others) = AllCalls sessions session calls × AllSessions sessions (session + 1) others
 
-one_more : (later : IsLater) (sessions session : ℕ) (calls : List Call) (call : Call) → AllCalls later sessions session calls → IsPrintable later sessions session call → AllCalls later sessions session (calls ++ call ∷ [])
-one_more later sessions session [] call all is = (is, tt)
-one_more later sessions session (first ∷ calls) call all is = (all.0, one_more later sessions session calls call all.1 is)
+one_more : (sessions session : ℕ) (calls : List Call) (call : Call) → AllCalls sessions session calls → IsPrintable sessions session call → AllCalls sessions session (calls ++ call ∷ [])
+one_more sessions session [] call all is = (is, tt)
+one_more sessions session (first ∷ calls) call all is = (all.0, one_more sessions session calls call all.1 is)
 
-all_put : (later : IsLater) (sessions from : ℕ) (calls : List (List Call)) (at session : ℕ) (call : Call) → session ≡ from + at → at < length calls → AllSessions later sessions from calls → IsPrintable later sessions session call → AllSessions later sessions from (put calls at call)
-all_put later sessions from [] at session call e lt all is = absurd (omega arith)
-all_put later sessions from (calls ∷ others) zero session call e lt all is =
+all_put : (sessions from : ℕ) (calls : List (List Call)) (at session : ℕ) (call : Call) → session ≡ from + at → at < length calls → AllSessions sessions from calls → IsPrintable sessions session call → AllSessions sessions from (put calls at call)
+all_put sessions from [] at session call e lt all is = absurd (omega arith)
+all_put sessions from (calls ∷ others) zero session call e lt all is =
     let same : session ≡ from = omega arith in
-    (one_more later sessions from calls call all.0 (subst (λ (s : ℕ). IsPrintable later sessions s call) same is), all.1)
-all_put later sessions from (calls ∷ others) (suc at) session call e lt all is = (all.0, all_put later sessions (from + 1) others at session call (omega arith) (omega arith) all.1 is)
+    (one_more sessions from calls call all.0 (subst (λ (s : ℕ). IsPrintable sessions s call) same is), all.1)
+all_put sessions from (calls ∷ others) (suc at) session call e lt all is = (all.0, all_put sessions (from + 1) others at session call (omega arith) (omega arith) all.1 is)
 
 put_size : (from : ℕ) (calls : List (List Call)) (at session : ℕ) (call : Call) → session ≡ from + at → at < length calls → length (printed_sessions from (put calls at call)) ≡ length (printed_sessions from calls) + length (printed_call session call)
 put_size from [] at session call e lt = absurd (omega arith)
@@ -89,30 +89,30 @@ leaves_room : (options : Options) (sessions : ℕ) (calls : List (List Call)) (b
 leaves_room options sessions calls bytes short few small = rw (le-ltb BUFFER_BYTES bytes short, le-ltb SCRIPT_CALLS (call_count calls + 1) few, le-ltb SCRIPT_PAYLOAD_BYTES (payload_bytes calls + bytes) small) refl
 
 -- the calls of a script that is being read
-pub record AreWellRead (later : IsLater) (sessions : ℕ) (calls : List (List Call)) : Type 0 where
-  pub all : AllSessions later sessions 1 calls
+pub record AreWellRead (sessions : ℕ) (calls : List (List Call)) : Type 0 where
+  pub all : AllSessions sessions 1 calls
   pub count : length calls ≡ sessions
   pub few : call_count calls ≤ SCRIPT_CALLS
   pub small : payload_bytes calls ≤ SCRIPT_PAYLOAD_BYTES
 
 -- what lines add to the calls before them
-pub record AreLinesRead (later : IsLater) (options : Options) (sessions : ℕ) (before : List (List Call)) (lines : List Line) (script : ScriptParts) : Type 0 where
+pub record AreLinesRead (options : Options) (sessions : ℕ) (before : List (List Call)) (lines : List Line) (script : ScriptParts) : Type 0 where
   pub calls : List (List Call)
   pub turns : List Turn
   pub is : scheduled options sessions calls turns ≡ script
-  pub well : AreWellRead later sessions calls
-  pub schedule : IsSchedule later sessions turns
+  pub well : AreWellRead sessions calls
+  pub schedule : IsSchedule sessions turns
   pub size : length (printed_sessions 1 calls) + length (printed_turns turns) ≤ length (printed_sessions 1 before) + lines_size lines
 
 -- the first schedule line and those behind it
-schedule_first : (later : IsLater) (alike : AreAlike later) (options : Options) (sessions : ℕ) (before : List (List Call)) (line : Line) (lines : List Line) (script : ScriptParts) (number : ℕ) → AreWellRead later sessions before
-    → IsRight later (reads.Sessions (script_with options sessions before)) line → is_word (codes "schedule") (first_word line.text) ≡ true
-    → script_from_by later (number + 1) (after_line (reads.Sessions (script_with options sessions before)) line.text) lines ≡ Ok script
-    → AreLinesRead later options sessions before (line ∷ lines) script
-schedule_first later alike options sessions before line lines script number well right first e =
-    let one = schedule_line_read later (script_with options sessions before) line right first in
-    let rest = turn_lines_read later alike options sessions before one.turns lines script (number + 1) one.some one.named one.played (omega (arith, one.room))
-    (ap (λ (r : Reading). script_from_by later (number + 1) r lines) (sym one.after) ∙ e) in
+schedule_first : (options : Options) (sessions : ℕ) (before : List (List Call)) (line : Line) (lines : List Line) (script : ScriptParts) (number : ℕ) → AreWellRead sessions before
+    → IsRight (reads.Sessions (script_with options sessions before)) line → is_word (codes "schedule") (first_word line.text) ≡ true
+    → script_from (number + 1) (after_line (reads.Sessions (script_with options sessions before)) line.text) lines ≡ Ok script
+    → AreLinesRead options sessions before (line ∷ lines) script
+schedule_first options sessions before line lines script number well right first e =
+    let one = schedule_line_read (script_with options sessions before) line right first in
+    let rest = turn_lines_read options sessions before one.turns lines script (number + 1) one.some one.named (omega (arith, one.room))
+    (ap (λ (r : Reading). script_from (number + 1) r lines) (sym one.after) ∙ e) in
     record {
       calls = before;
       turns = rest.turns;
@@ -122,27 +122,27 @@ schedule_first later alike options sessions before line lines script number well
       size = omega (arith, rest.size, one.size, ended_size line (line_parts line right.bytes).0);
     }
 
-pub calls_read : (later : IsLater) (alike : AreAlike later) (options : Options) (sessions : ℕ) (before : List (List Call)) (lines : List Line) (script : ScriptParts) (number : ℕ) → AreWellRead later sessions before
-    → script_from_by later number (reads.Sessions (script_with options sessions before)) lines ≡ Ok script → AreLinesRead later options sessions before lines script
-calls_read later alike options sessions before [] script number well e = record {
+pub calls_read : (options : Options) (sessions : ℕ) (before : List (List Call)) (lines : List Line) (script : ScriptParts) (number : ℕ) → AreWellRead sessions before
+    → script_from number (reads.Sessions (script_with options sessions before)) lines ≡ Ok script → AreLinesRead options sessions before lines script
+calls_read options sessions before [] script number well e = record {
   calls = before;
   turns = [];
-  is = same_script (script_with options sessions before) script (sym (none_read later number (reads.Sessions (script_with options sessions before))) ∙ e);
+  is = same_script (script_with options sessions before) script (sym (none_read number (reads.Sessions (script_with options sessions before))) ∙ e);
   well = well;
-  schedule = no_schedule later sessions;
+  schedule = no_schedule sessions;
   size = omega (arith, no_turns_size);
 }
-calls_read later alike options sessions before (line ∷ lines) script number well e =
-    let parts = line_read later number (reads.Sessions (script_with options sessions before)) line lines script e in
-    by_word (is_word (codes "schedule") (first_word line.text)) refl parts.0 parts.1 (λ next well others. calls_read later alike options sessions next lines script (number + 1) well others)
+calls_read options sessions before (line ∷ lines) script number well e =
+    let parts = line_read number (reads.Sessions (script_with options sessions before)) line lines script e in
+    by_word (is_word (codes "schedule") (first_word line.text)) refl parts.0 parts.1 (λ next well others. calls_read options sessions next lines script (number + 1) well others)
   where
-    by_word : (test : Bool) → is_word (codes "schedule") (first_word line.text) ≡ test → IsRight later (reads.Sessions (script_with options sessions before)) line
-        → script_from_by later (number + 1) (after_line (reads.Sessions (script_with options sessions before)) line.text) lines ≡ Ok script
-        → ((next : List (List Call)) → AreWellRead later sessions next → script_from_by later (number + 1) (reads.Sessions (script_with options sessions next)) lines ≡ Ok script → AreLinesRead later options sessions next lines script)
-        → AreLinesRead later options sessions before (line ∷ lines) script
-    by_word true first right others behind = schedule_first later alike options sessions before line lines script number well right first others
+    by_word : (test : Bool) → is_word (codes "schedule") (first_word line.text) ≡ test → IsRight (reads.Sessions (script_with options sessions before)) line
+        → script_from (number + 1) (after_line (reads.Sessions (script_with options sessions before)) line.text) lines ≡ Ok script
+        → ((next : List (List Call)) → AreWellRead sessions next → script_from (number + 1) (reads.Sessions (script_with options sessions next)) lines ≡ Ok script → AreLinesRead options sessions next lines script)
+        → AreLinesRead options sessions before (line ∷ lines) script
+    by_word true first right others behind = schedule_first options sessions before line lines script number well right first others
     by_word false first right others behind =
-        let read = call_read later alike options sessions before line right first in
+        let read = call_read options sessions before line right first in
         let ended = (line_parts line right.bytes).0 in
         let at : read.session - 1 < length before = omega (arith, read.low, read.high, well.count) in
         let place : read.session ≡ 1 + (read.session - 1) = omega (arith, read.low) in
@@ -150,12 +150,12 @@ calls_read later alike options sessions before (line ∷ lines) script number we
         let next = put before (read.session - 1) read.call in
         let rest = behind next
         (record {
-          all = all_put later sessions 1 before (read.session - 1) read.session read.call place at well.all read.again;
+          all = all_put sessions 1 before (read.session - 1) read.session read.call place at well.all read.again;
           count = length-set before (read.session - 1) _ ∙ well.count;
           few = omega (arith, put_count before (read.session - 1) read.call at, room.few);
           small = omega (arith, put_payload before (read.session - 1) read.call at, room.small);
         })
-        (ap (λ (r : Reading). script_from_by later (number + 1) r lines) (sym read.after) ∙ others) in
+        (ap (λ (r : Reading). script_from (number + 1) r lines) (sym read.after) ∙ others) in
         record {
           calls = rest.calls;
           turns = rest.turns;
@@ -178,15 +178,15 @@ with_next options sessions session done tail calls call e =
 split_sum : (f : List Call → ℕ) (done tail : List (List Call)) (calls : List Call) → sum_by f (done ++ calls ∷ tail) ≡ sum_by f done + (f calls + sum_by f tail)
 split_sum f done tail calls = omega (arith, sum_by-append f done (calls ∷ tail), sum_by-cons f calls tail)
 
-session_read : (later : IsLater) (options : Options) (sessions session : ℕ) (done tail : List (List Call)) (before calls : List Call) (rest : List ℕ) (script : ScriptParts)
-    → session ≡ length done + 1 → AllCalls later sessions session calls
+session_read : (options : Options) (sessions session : ℕ) (done tail : List (List Call)) (before calls : List Call) (rest : List ℕ) (script : ScriptParts)
+    → session ≡ length done + 1 → AllCalls sessions session calls
     → call_count done + (length before + length calls + call_count tail) ≤ SCRIPT_CALLS
     → payload_bytes done + (sum_by payload_length before + sum_by payload_length calls + payload_bytes tail) ≤ SCRIPT_PAYLOAD_BYTES
-    → ((number : ℕ) → script_from_by later number (reads.Sessions (script_with options sessions (done ++ (before ++ calls) ∷ tail))) (lines_of rest) ≡ Ok script)
-    → (number : ℕ) → script_from_by later number (reads.Sessions (script_with options sessions (done ++ before ∷ tail))) (lines_of (printed_calls session calls ++ rest)) ≡ Ok script
-session_read later options sessions session done tail before [] rest script at all few small others number =
-    ap (λ (calls : List Call). script_from_by later number (reads.Sessions (script_with options sessions (done ++ calls ∷ tail))) (lines_of rest)) (sym (append-nil before)) ∙ others number
-session_read later options sessions session done tail before (call ∷ calls) rest script at all few small others number =
+    → ((number : ℕ) → script_from number (reads.Sessions (script_with options sessions (done ++ (before ++ calls) ∷ tail))) (lines_of rest) ≡ Ok script)
+    → (number : ℕ) → script_from number (reads.Sessions (script_with options sessions (done ++ before ∷ tail))) (lines_of (printed_calls session calls ++ rest)) ≡ Ok script
+session_read options sessions session done tail before [] rest script at all few small others number =
+    ap (λ (calls : List Call). script_from number (reads.Sessions (script_with options sessions (done ++ calls ∷ tail))) (lines_of rest)) (sym (append-nil before)) ∙ others number
+session_read options sessions session done tail before (call ∷ calls) rest script at all few small others number =
     let state = done ++ before ∷ tail in
     let reading = reads.Sessions (script_with options sessions state) in
     let next = reads.Sessions (script_with options sessions (done ++ (before ++ call ∷ []) ∷ tail)) in
@@ -202,13 +202,13 @@ session_read later options sessions session done tail before (call ∷ calls) re
     (omega (arith, split_sum (sum_by payload_length) done tail before, cons, small)) in
     let after : after_line reading one.line ≡ next = one.after options state ∙ ap (λ (p : ScriptParts). reads.Sessions p) (with_next options sessions session done tail before call at) in
     let pushed : sum_by payload_length (before ++ call ∷ []) ≡ sum_by payload_length before + payload_length call = omega (arith, sum_by-append payload_length before (call ∷ []), sum_by-cons payload_length call []) in
-    let more = session_read later options sessions session done tail (before ++ call ∷ []) calls rest script at all.1
+    let more = session_read options sessions session done tail (before ++ call ∷ []) calls rest script at all.1
     (omega (arith, length-append before (call ∷ []), few))
     (omega (arith, pushed, cons, small))
-    (λ n. ap (λ (all : List Call). script_from_by later n (reads.Sessions (script_with options sessions (done ++ all ∷ tail))) (lines_of rest)) (append_assoc before (call ∷ []) calls) ∙ others n)
+    (λ n. ap (λ (all : List Call). script_from n (reads.Sessions (script_with options sessions (done ++ all ∷ tail))) (lines_of rest)) (append_assoc before (call ∷ []) calls) ∙ others n)
     (number + 1) in
-    ap (λ (t : List ℕ). script_from_by later number reading (lines_of t)) text
-    ∙ lines_read later number reading next one.line behind script one.in_line (one.right options state room) after more
+    ap (λ (t : List ℕ). script_from number reading (lines_of t)) text
+    ∙ lines_read number reading next one.line behind script one.in_line (one.right options state room) after more
 
 pub no_counts : (number : ℕ) → call_count (replicate number []) ≡ 0
 no_counts number = omega (arith, sum_by-replicate (length {A = Call}) number [])
@@ -217,26 +217,26 @@ pub no_payloads : (number : ℕ) → payload_bytes (replicate number []) ≡ 0
 no_payloads number = omega (arith, sum_by-replicate (sum_by payload_length) number [])
 
 -- the calls of sessions, read from none, with a text behind them
-pub sessions_read : (later : IsLater) (options : Options) (sessions session : ℕ) (done rest : List (List Call)) (text : List ℕ) (script : ScriptParts)
-    → session ≡ length done + 1 → AllSessions later sessions session rest → call_count done + call_count rest ≤ SCRIPT_CALLS → payload_bytes done + payload_bytes rest ≤ SCRIPT_PAYLOAD_BYTES
-    → ((number : ℕ) → script_from_by later number (reads.Sessions (script_with options sessions (done ++ rest))) (lines_of text) ≡ Ok script)
-    → (number : ℕ) → script_from_by later number (reads.Sessions (script_with options sessions (done ++ replicate (length rest) []))) (lines_of (printed_sessions session rest ++ text)) ≡ Ok script
-sessions_read later options sessions session done [] text script at all few small others number = others number
-sessions_read later options sessions session done (calls ∷ rest) text script at all few small others number =
+pub sessions_read : (options : Options) (sessions session : ℕ) (done rest : List (List Call)) (text : List ℕ) (script : ScriptParts)
+    → session ≡ length done + 1 → AllSessions sessions session rest → call_count done + call_count rest ≤ SCRIPT_CALLS → payload_bytes done + payload_bytes rest ≤ SCRIPT_PAYLOAD_BYTES
+    → ((number : ℕ) → script_from number (reads.Sessions (script_with options sessions (done ++ rest))) (lines_of text) ≡ Ok script)
+    → (number : ℕ) → script_from number (reads.Sessions (script_with options sessions (done ++ replicate (length rest) []))) (lines_of (printed_sessions session rest ++ text)) ≡ Ok script
+sessions_read options sessions session done [] text script at all few small others number = others number
+sessions_read options sessions session done (calls ∷ rest) text script at all few small others number =
     let tail = replicate (length rest) [] in
     let count = sum_by-cons length calls rest in
     let bytes = sum_by-cons (sum_by payload_length) calls rest in
-    ap (λ (t : List ℕ). script_from_by later number (reads.Sessions (script_with options sessions (done ++ [] ∷ tail))) (lines_of t)) (append_assoc (printed_calls session calls) (printed_sessions (session + 1) rest) text)
-    ∙ session_read later options sessions session done tail [] calls (printed_sessions (session + 1) rest ++ text) script at all.0
+    ap (λ (t : List ℕ). script_from number (reads.Sessions (script_with options sessions (done ++ [] ∷ tail))) (lines_of t)) (append_assoc (printed_calls session calls) (printed_sessions (session + 1) rest) text)
+    ∙ session_read options sessions session done tail [] calls (printed_sessions (session + 1) rest ++ text) script at all.0
     (omega (arith, count, no_counts (length rest), few))
     (omega (arith, bytes, no_payloads (length rest), small))
     (λ n.
-    ap (λ (state : List (List Call)). script_from_by later n (reads.Sessions (script_with options sessions state)) (lines_of (printed_sessions (session + 1) rest ++ text))) (sym (append_assoc done (calls ∷ []) tail))
-    ∙ sessions_read later options sessions (session + 1) (done ++ calls ∷ []) rest text script
+    ap (λ (state : List (List Call)). script_from n (reads.Sessions (script_with options sessions state)) (lines_of (printed_sessions (session + 1) rest ++ text))) (sym (append_assoc done (calls ∷ []) tail))
+    ∙ sessions_read options sessions (session + 1) (done ++ calls ∷ []) rest text script
     (omega (arith, length-append done (calls ∷ [])))
     all.1
     (omega (arith, sum_by-append length done (calls ∷ []), sum_by-cons length calls [], count, few))
     (omega (arith, sum_by-append (sum_by payload_length) done (calls ∷ []), sum_by-cons (sum_by payload_length) calls [], bytes, small))
-    (λ m. ap (λ (state : List (List Call)). script_from_by later m (reads.Sessions (script_with options sessions state)) (lines_of text)) (append_assoc done (calls ∷ []) rest) ∙ others m)
+    (λ m. ap (λ (state : List (List Call)). script_from m (reads.Sessions (script_with options sessions state)) (lines_of text)) (append_assoc done (calls ∷ []) rest) ∙ others m)
     n)
     number

@@ -1,4 +1,3 @@
 pub mod PrintedCalls
 pub mod Printing
-pub mod ScriptsBy
 pub mod ReasonExamples

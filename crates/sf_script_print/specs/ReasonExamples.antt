@@ -8,7 +8,7 @@ use Rattle.sf_script.specs.declared.reading.Reading.TheVariants as reads
 use Rattle.sf_script.specs.Parts.{ScriptParts}
 use Rattle.sf_script.specs.Reasons.{reason_of, after_line}
 
--- What was read where these lines stand before, whether or not the program plays them yet.
+-- What was read where these lines stand before.
 abbrev pub reading_of : List (List ℕ) → Reading
 reading_of before = fold after_line reads.Nothing before
 

@@ -7,9 +7,9 @@ mod pieces;
 mod printing;
 mod reason_examples;
 
-pub use laws::{a_printed_script_is_read, a_printed_script_is_read_once_all_is_played};
+pub use laws::a_printed_script_is_read;
 pub use printing::print;
 pub use reason_examples::{
-    calls_are_refused_in_order, calls_have_their_place, limits_of_scripts, options_are_later,
-    options_have_their_place, schedules_are_refused,
+    calls_are_refused_in_order, calls_have_their_place, limits_of_scripts,
+    options_have_their_place, options_have_their_range, schedules_are_refused,
 };

@@ -1,11 +1,8 @@
-//! Why lines are refused, as worked examples. They stand behind options, schedule lines and many calls too, where no whole text
-//! leads while such lines are refused as `later`.
+//! Why lines are refused, as worked examples. They stand behind options, schedule lines and many calls too.
 ghost use Rattle.std.specs.Prelude.{◌≡◌, List, Some, None, length, codes, true, false};
 ghost use Rattle.sf_types.specs.declared.call.Call.{Call};
 ghost use Rattle.sf_types.specs.declared.options.Options.{Options};
-ghost use Rattle.sf_script.specs.declared.fault.Reason.TheVariants.{Bytes, Place, Session, Form, Later, Limit};
-ghost use Rattle.sf_script.specs.declared.option_line.OptionLine.TheVariants.{Capacity, Gather, Dispensers};
-ghost use Rattle.sf_script.specs.OptionLines.{is_option_in_range};
+ghost use Rattle.sf_script.specs.declared.fault.Reason.TheVariants.{Bytes, Place, Session, Form, Limit};
 ghost use Rattle.sf_script.specs.Parts.{ScriptParts, call_count, payload_bytes};
 ghost use Rattle.sf_script.specs.Reasons.{passes_turn_limit};
 ghost use Rattle.sf_script_print.specs.ReasonExamples.{reason_behind, reason_after, unended_reason, header, header_and, two_sessions, scheduled, one_session};
@@ -22,15 +19,20 @@ pub fn options_have_their_place()
     ensures unended { unended_reason (header_and (codes "gather 512")) (codes "capacity 5") ≡ Some Bytes }
 {}
 
-/// Where an option may stand, its line is refused for its form, and else as `later`, in its range or not: the program plays no
-/// option yet, and the range is asked last. A number out of its range is a `limit` once options are played.
-pub fn options_are_later()
-    ensures in_range { reason_behind (header_and (codes "gather 512")) (codes "dispensers 2") ≡ Some Later }
-    ensures out_of_range { reason_behind header (codes "capacity 0") ≡ Some Later }
+/// Where an option or the sessions line may stand, it is refused for its form, and else where its number is out of its range.
+pub fn options_have_their_range()
+    ensures in_range { reason_behind (header_and (codes "gather 512")) (codes "dispensers 8") ≡ None }
     ensures no_form { reason_behind header (codes "capacity many") ≡ Some Form }
-    ensures capacity { is_option_in_range (Capacity 0) ≡ false }
-    ensures gather { is_option_in_range (Gather 511) ≡ false }
-    ensures dispensers { is_option_in_range (Dispensers 0) ≡ false }
+    ensures no_capacity { reason_behind header (codes "capacity 0") ≡ Some Limit }
+    ensures capacity { reason_behind header (codes "capacity 65537") ≡ Some Limit }
+    ensures retention { reason_behind header (codes "retention 1001") ≡ Some Limit }
+    ensures little_gather { reason_behind header (codes "gather 511") ≡ Some Limit }
+    ensures gather { reason_behind header (codes "gather 1048577") ≡ Some Limit }
+    ensures no_dispensers { reason_behind header (codes "dispensers 0") ≡ Some Limit }
+    ensures dispensers { reason_behind header (codes "dispensers 9") ≡ Some Limit }
+    ensures most_sessions { reason_behind header (codes "sessions 16") ≡ None }
+    ensures no_sessions { reason_behind header (codes "sessions 0") ≡ Some Limit }
+    ensures sessions { reason_behind header (codes "sessions 17") ≡ Some Limit }
 {}
 
 /// A call stands behind the sessions line and before the schedule.
@@ -50,7 +52,7 @@ pub fn schedules_are_refused()
     ensures empty_word { reason_behind two_sessions (codes "schedule ") ≡ Some Session }
     ensures alone { reason_behind two_sessions (codes "schedule") ≡ Some Form }
     ensures before_sessions { reason_behind header (codes "schedule 1") ≡ Some Place }
-    ensures right { reason_behind scheduled (codes "schedule 2 r shrink") ≡ Some Later }
+    ensures right { reason_behind scheduled (codes "schedule 2 r shrink") ≡ None }
 {}
 
 /// The session of a call comes before its form, and a number of copies is from 1 to 18,446,744,073,709,551,615 by its form.
@@ -60,7 +62,7 @@ pub fn calls_are_refused_in_order()
     ensures no_copies { reason_behind two_sessions (codes "1: writeappend p 0*x41") ≡ Some Form }
     ensures most_copies { reason_behind two_sessions (codes "1: writeappend p 18446744073709551615*x41") ≡ Some Limit }
     ensures past_copies { reason_behind two_sessions (codes "1: writeappend p 18446744073709551616*x41") ≡ Some Form }
-    ensures not_played { reason_behind two_sessions (codes "1: write p 1 18446744073709551615*x41") ≡ Some Later }
+    ensures no_payload { reason_behind two_sessions (codes "1: write p 1 x") ≡ Some Form }
 {}
 
 /// A script has at most 20,000 calls, 67,108,864 payload bytes and 200,000 turns.

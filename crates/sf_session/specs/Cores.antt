@@ -79,3 +79,7 @@ noted core = record core { pending = [] }
 -- A core whose standing call awaits the store's answer.
 abbrev pub Awaits : CoreView → Type 0
 Awaits core = (need_of core ≡ need.Event) ⊎ (need_of core ≡ need.Publish)
+
+-- A core whose standing call is due and flushes: it wants its promise, or its publication.
+abbrev pub Flushes : CoreView → Type 0
+Flushes core = (need_of core ≡ need.Reserve) ⊎ (need_of core ≡ need.Publish)

@@ -6,7 +6,7 @@ ghost use Rattle.sf_types.specs.Halves.Asks.{kept_births, request_of};
 ghost use Rattle.sf_dedup.specs.Prints.{print_of};
 ghost use Rattle.sf_versions.specs.Asks.{IsAsk, HasBirths, IsFlush, request_of_part};
 ghost use Rattle.sf_session.specs.declared.need.Need.TheVariants as need;
-ghost use Rattle.sf_session.specs.Cores.{need_of};
+ghost use Rattle.sf_session.specs.Cores.{Flushes, need_of};
 ghost use Rattle.sf_session.specs.Flushing.{AreCutsOf};
 ghost use Rattle.sf_session.specs.Inside.Standings.{IsResult};
 
@@ -85,7 +85,7 @@ impl SessionCore {
     /// The contents that the standing call flushes, which is due, in the order of its cuts, and the choices of their values. It
     /// costs in proportion to the fresh bytes that are flushed, and to their pieces.
     pub fn cuts(&self) -> Mem<Cuts>
-        requires { need_of self.now ≡ need.Reserve }
+        requires { Flushes self.now }
         ensures { IfOk result (λ of. AreCutsOf self.now of) }
     {
         let Some(standing) = &self.standing else {
@@ -99,7 +99,7 @@ impl SessionCore {
 
     // The ask of the standing call, which is due.
     fn due_ask(&self) -> Mem<Ask>
-        requires { need_of self.now ≡ need.Reserve }
+        requires { Flushes self.now }
         ensures call { IfOk result (λ ask. self.now.standing ≡ Some ask.call) }
         ensures ask { IfOk result (IsAsk self.now.own) }
     {
@@ -115,7 +115,7 @@ impl SessionCore {
 
     /// The flush of the standing call, which is due, by its cuts and their prints.
     pub fn flush(&self, cuts: Cuts, prints: PrintList) -> Mem<Flush>
-        requires due { need_of self.now ≡ need.Reserve }
+        requires due { Flushes self.now }
         requires cuts { AreCutsOf self.now cuts }
         requires prints { prints ≡ map print_of cuts.contents }
         ensures call { IfOk result (λ flush. self.now.standing ≡ Some flush.ask.call) }

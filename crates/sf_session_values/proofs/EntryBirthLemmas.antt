@@ -43,7 +43,7 @@ row_by_row [] = refl
 row_by_row ((name, None) ∷ rows) = row_by_row rows
 row_by_row ((name, Some value) ∷ rows) = ap (λ bs. births_in value ++ bs) (row_by_row rows)
 
-locator_by_locator : (locators : NameMap Locator) → births_of_locators locators ≡ flat_map (λ locator. births_in locator.1.value) locators
+pub locator_by_locator : (locators : NameMap Locator) → births_of_locators locators ≡ flat_map (λ locator. births_in locator.1.value) locators
 locator_by_locator [] = refl
 locator_by_locator (l ∷ locators) = ap (λ bs. births_in l.1.value ++ bs) (locator_by_locator locators)
 

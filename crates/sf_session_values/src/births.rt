@@ -2,15 +2,16 @@
 ghost use Rattle.std.specs.Prelude.{◌≡◌, ◌++◌, [], false, slice_get, OnOk};
 ghost use Rattle.std.specs.Option.{option_copied, option_map_or};
 ghost use Rattle.std.specs.Ordering.{is_eq};
+ghost use Rattle.sf_types.specs.Inside.Births.{rising_births};
 ghost use Rattle.sf_types.specs.Calls.Savepoints.{with_losses};
 ghost use Rattle.sf_session_values.specs.ValueBirths.{rows_beside, locators_beside, is_lost, births_of_rows, births_of_locators};
-ghost use Rattle.sf_session_values.specs.Inside.EntryBirths.{births_of_value, births_of_row, births_of_locator, births_kept};
+ghost use Rattle.sf_session_values.specs.Inside.EntryBirths.{births_of_value, births_of_row, births_of_row_through, births_of_locator, births_kept};
 
 use crate::values::SessionValues;
 use sf_birth_union::BirthUnion;
 use sf_chunk_map::Map;
 use sf_locators::Locator;
-use sf_types::{LocName, Mem, Name};
+use sf_types::{Births, LocName, Mem, Name};
 use sf_versions::ChangeList;
 use std::cmp::Ordering;
 
@@ -134,6 +135,60 @@ impl SessionValues {
         for k in 0..self.locators().len() {
             self.add_kept(k, since, into)?;
         }
+        Ok(())
+    }
+
+    // Adds the births of the working value of a locator's row, unless the row is left out.
+    fn add_row_through(&self, at: &LocName, except: Option<&Name>, into: &mut BirthUnion) -> Mem<()>
+        ensures { OnOk result (into.new ≡ into.old ++ births_of_row_through self.now.held (option_copied except.entry) at.now) }
+    {
+        let Some(locator) = self.locators().get(at) else {
+            return Ok(());
+        };
+        if is_left_out(except, &locator.row) {
+            return Ok(());
+        }
+        match self.working(&locator.row) {
+            Some(value) => add_value(value, into),
+            None => Ok(()),
+        }
+    }
+
+    // Adds the births of rows' own values, and those of the working value of a locator's row, where one is named.
+    fn add_own(
+        &self,
+        births: &Births,
+        row: Option<&Name>,
+        at: Option<&LocName>,
+        into: &mut BirthUnion,
+    ) -> Mem<()>
+        ensures { OnOk result (into.new ≡ (into.old ++ births.now) ++ option_map_or (births_of_row_through self.now.held (option_copied row.entry)) (option_copied at.entry) []) }
+    {
+        into.add(births)?;
+        match at {
+            Some(at) => self.add_row_through(at, row, into),
+            None => Ok(()),
+        }
+    }
+
+    /// Adds births, so that they are those there before, those of the rows' working values and those of the locators' values, but
+    /// for those of one row and of one locator where these are named. It costs in proportion to the births of the rows, and to the
+    /// locators with their births. After want of memory any of them may have been added.
+    pub fn add_births_beside(
+        &self,
+        row: Option<&Name>,
+        at: Option<&LocName>,
+        into: &mut BirthUnion,
+    ) -> Mem<()>
+        ensures { OnOk result (rising_births into.new ≡ rising_births ((into.old ++ births_of_rows (rows_beside (option_copied row.entry) self.now.held.working)) ++ births_of_locators (locators_beside (option_copied at.entry) self.now.held.locators))) }
+    {
+        // The names of both maps rise.
+        let _counts = (self.rows.len(), self.locators.len());
+        match self.rows.own_births(row)? {
+            Some(births) => self.add_own(&births, row, at, into)?,
+            None => self.add_row_births(row, into)?,
+        }
+        self.add_locator_births(at, into)?;
         Ok(())
     }
 }

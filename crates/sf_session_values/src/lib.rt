@@ -3,8 +3,10 @@
 
 mod births;
 mod changes;
+mod row_counts;
 mod values;
 mod working;
+mod working_rows;
 
 pub use births::add_change_births;
 pub use values::SessionValues;

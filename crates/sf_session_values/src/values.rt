@@ -14,9 +14,9 @@ ghost use Rattle.sf_locators.specs.LocatorWrites.{session_with};
 ghost use Rattle.sf_session_values.specs.Inside.Sharing.{value_by, is_row_value};
 
 use crate::working::{RestoredRows, Working};
+use crate::working_rows::WorkingRows;
 use sf_chunk_map::Map;
 use sf_locators::{Locator, Locators};
-use sf_sorted_map::SortedMap;
 use sf_types::{LocName, Mem, Name};
 use std::alloc::Global;
 use std::marker::Model;
@@ -25,8 +25,8 @@ use std::marker::Model;
 /// was written through a locator stands once, in that locator, until the two differ.
 #[derive(Drop)]
 pub struct SessionValues {
-    rows: SortedMap<Name, Working>,
-    locators: Locators,
+    pub(crate) rows: WorkingRows,
+    pub(crate) locators: Locators,
     alloc: Global,
 }
 
@@ -61,7 +61,7 @@ fn value_by<'a>(locators: &'a Locators, working: &'a Working) -> Option<&'a Map>
 }
 
 // Whether a locator's value is the working value of its row.
-fn is_row_value(locators: &Locators, rows: &SortedMap<Name, Working>, at: &LocName) -> bool
+fn is_row_value(locators: &Locators, rows: &WorkingRows, at: &LocName) -> bool
     ensures { result ≡ is_row_value locators.now.held rows.now.held at.now }
 {
     let Some(locator) = locators.get(at) else {
@@ -81,7 +81,7 @@ impl SessionValues {
         ensures { result.held ≡ record { working = []; locators = [] } }
     {
         SessionValues {
-            rows: SortedMap::new(alloc),
+            rows: WorkingRows::new(alloc),
             locators: Locators::new(alloc),
             alloc,
         }
@@ -157,7 +157,7 @@ impl SessionValues {
             Some(old) => {
                 if keeps_row {
                     let Locator { row, map, .. } = old;
-                    self.rows.replace(&row, Working::Own(map));
+                    self.rows.replace(row, map);
                 }
             }
             None => {}
@@ -176,7 +176,7 @@ impl SessionValues {
             Some(old) => {
                 if keeps_row {
                     let Locator { row, map, .. } = old;
-                    self.rows.replace(&row, Working::Own(map));
+                    self.rows.replace(row, map);
                 }
                 true
             }
@@ -205,7 +205,7 @@ impl SessionValues {
     pub fn commit(&mut self)
         ensures { self.new.held ≡ record { working = []; locators = clean_locators self.old.held.locators } }
     {
-        self.rows = SortedMap::new(self.alloc);
+        self.rows = WorkingRows::new(self.alloc);
         self.locators.committed();
     }
 
@@ -213,7 +213,7 @@ impl SessionValues {
     pub fn roll_back(&mut self)
         ensures { self.new.held ≡ record { working = []; locators = with_losses (λ l. l.is_dirty) self.old.held.locators } }
     {
-        self.rows = SortedMap::new(self.alloc);
+        self.rows = WorkingRows::new(self.alloc);
         self.locators.rolled_back();
     }
 
@@ -233,7 +233,7 @@ impl SessionValues {
     pub fn end(&mut self)
         ensures { self.new.held ≡ record { working = []; locators = [] } }
     {
-        self.rows = SortedMap::new(self.alloc);
+        self.rows = WorkingRows::new(self.alloc);
         self.locators = Locators::new(self.alloc);
     }
 }

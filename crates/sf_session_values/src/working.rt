@@ -1,11 +1,11 @@
 //! Working values of rows.
-ghost use Rattle.std.specs.Prelude.{◌≡◌, map, IfOk};
+ghost use Rattle.std.specs.Prelude.{◌≡◌, IfOk};
 ghost use Rattle.sf_session_values.specs.Inside.Sharing.{own_value};
 
+use crate::working_rows::WorkingRows;
 use sf_chunk_map::Map;
-use sf_sorted_map::SortedMap;
-use sf_types::{LocName, Mem, Name, TryCopy};
-use sf_versions::{Change, ChangeList};
+use sf_types::{LocName, Mem, TryCopy};
+use sf_versions::ChangeList;
 use std::alloc::Global;
 use std::marker::Model;
 
@@ -35,7 +35,7 @@ impl Working {
 /// Working values that a rollback to a savepoint brings back, seen as the rules' `Rows`.
 #[derive(Drop)]
 pub struct RestoredRows {
-    pub(crate) rows: SortedMap<Name, Working>,
+    pub(crate) rows: WorkingRows,
 }
 
 impl Model for RestoredRows {
@@ -50,26 +50,12 @@ impl Model for RestoredRows {
     ghost invariant = { λ restored. NoneShared restored.rows.held };
 }
 
-// The entries of rows that have these values of their own.
-fn own_entries(alloc: Global, changes: Vec<Change>) -> Mem<Vec<(Name, Working)>>
-    ensures { IfOk result (λ entries. entries.items ≡ map (λ change. (change.0, own_value change.1)) changes.items) }
-{
-    let mut entries = Vec::with_capacity(alloc, changes.len())?;
-    for change in changes {
-        let Change { name, value } = change;
-        entries.push((name, Working::own(value)))?;
-    }
-    Ok(entries)
-}
-
 impl RestoredRows {
     /// A copy of changes, as working values.
     pub fn of(alloc: Global, changes: &ChangeList) -> Mem<RestoredRows>
         ensures { IfOk result (λ rows. rows ≡ changes.now) }
     {
-        let entries = own_entries(alloc, changes.copy()?.into_vec())?;
-        Ok(RestoredRows {
-            rows: SortedMap::from_entries(entries),
-        })
+        let rows = WorkingRows::of(alloc, changes.copy()?.into_vec())?;
+        Ok(RestoredRows { rows })
     }
 }

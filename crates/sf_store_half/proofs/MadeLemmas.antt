@@ -1,14 +1,13 @@
 -- A writing call that is published by a plan of its cuts.
 use Rattle.std.proofs.Common.{◌≡◌, ℕ, ◌-◌, ◌≤◌, true, Err, Result, List, length, take, Option, None, refl, sym, ap, subst, ◌∙◌, arith}
-use Rattle.std.specs.Prelude.{◌||◌, All, flat_map, slice_get, slice_set, sum_by, unwrap_or}
+use Rattle.std.specs.Prelude.{◌||◌, All, slice_get, slice_set, sum_by, unwrap_or}
 use Rattle.std.specs.List.{AllByRecursion as Each}
 use Rattle.std.specs.Option.{option_map_or}
 use Rattle.std.proofs.lemmas.List.{append-nil, length-map, take_all}
 use Rattle.std.proofs.lemmas.List.Elements.{All-from_recursion, recursion_from_All}
 use Rattle.sf_types.specs.Values.Marks.{Value, births_in}
 use Rattle.sf_types.specs.Space.BlockRuns.{blocks_in}
-use Rattle.sf_types.specs.Space.Cuts.{Cut, contents_of_value, cuts, cuts_of_value, settle_value}
-use Rattle.sf_types.specs.Space.Reach.{values_in}
+use Rattle.sf_types.specs.Space.Cuts.{Cut, contents_of_value, cuts_of_value, settle_value}
 use Rattle.sf_types.specs.Halves.Asks.{Given, Half, Kept, Request, Settles, births_with, kept_at, new_kept}
 use Rattle.sf_types.specs.Halves.Asks as rule
 use Rattle.sf_types.specs.Halves.Flushes.{half_births_for, half_publish}
@@ -19,13 +18,12 @@ use Rattle.sf_lifetimes.specs.Ledgers.{has_birth}
 use Rattle.sf_stock.specs.Stocks.{IsSound, Stocked, is_stocked, with_left_parked}
 use Rattle.sf_stock.proofs.SinceLemmas.{stocked-append}
 use Rattle.sf_store_half.specs.Fields.{Fields, Keeps, session_field}
-use Rattle.sf_store_half.specs.HalfMoves.{AreEnough, ArePlaceable, AreStocked, BringsStocked, HasCutsOfRequest, HasField, IsRepacked, blocks_left_over, cuts_in, field_at, flushed_rows, new_places}
-use Rattle.sf_versions.specs.declared.asks.Flush.{Flush}
-use Rattle.sf_versions.specs.Asks.{request_of_part}
+use Rattle.sf_store_half.specs.HalfMoves.{AreEnough, ArePlaceable, AreStocked, HasField, IsRepacked, blocks_left_over, field_at, new_places}
 use Rattle.sf_store_half.specs.Inside.Answered.{IsPublished}
 use Rattle.sf_store_half.specs.declared.store_half.Published.{Published}
 use Rattle.sf_store_half.specs.Inside.Fields.{AreKept, promised_blocks}
 use Rattle.sf_store_half.specs.Inside.Plans.{AreNewPlaces, IsPlan, planned_all, planned_births, planned_by, published_stock, stocked_from, unplanned, with_all_new}
+use Rattle.sf_store_half.specs.Inside.Publications.{IsPublication}
 use Rattle.sf_store_half.specs.declared.plans.Plan.{Plan}
 use Rattle.sf_store_half.specs.declared.session_fields.Promised.{Promised}
 use Rattle.sf_store_half.specs.declared.session_fields.SessionField.{SessionField}
@@ -130,24 +128,24 @@ module _ (f : Fields) (s : ℕ) (blocks : List ℕ) (of : List Cut) (v settled :
   }
 
 -- what a flush of a writing call brings
-pub made_of : (f now : Fields) (s : ℕ) (flush : Flush) (blocks : List ℕ) (v settled : Value) (births : List ℕ) (plan : Plan) → f ≡ now → IsSound f.stock → HasField now s → BringsStocked now flush.ask → request_of_part flush.ask.part ≡ Settles v
-    → HasCutsOfRequest now.options flush → ArePlaceable now blocks → AreEnough now (cuts_in now.options flush) (length blocks) → planned_by f.stock plan ≡ planned_all (unplanned f.stock blocks) (cuts_in f.options flush) → IsPlan f.stock plan
-    → settled ≡ settle_value v (planned_births (unplanned f.stock blocks) (cuts_in f.options flush)) → births ≡ births_with flush.ask.kept settled → IsMade f s blocks (cuts_in f.options flush) v settled flush.ask.kept births plan
-made_of f now s flush blocks v settled births plan same sound has brings request of places enough planned plan_is settled_is births_are = record {
-  sound = sound;
-  has = subst (λ (x : Fields). HasField x s) (sym same) has;
-  cuts_are = subst (λ (x : Fields). cuts_in x.options flush ≡ cuts_of_value x.options v) (sym same) (of ∙ ap (λ (r : Request). cuts now.options (flushed_rows r)) request ∙ cuts_alone now.options v);
-  places = subst (λ (x : Fields). ArePlaceable x blocks) (sym same) places;
-  enough = subst (λ (x : Fields). AreEnough x (cuts_in x.options flush) (length blocks)) (sym same) enough;
-  kept_stocked = subst (λ (x : Fields). AreStocked x flush.ask.kept) (sym same) brings.kept;
-  named =
-      subst (λ (bs : List ℕ). AreStocked f bs) (ap (λ (r : Request). flat_map births_in (values_in (flushed_rows r))) request ∙ append-nil (births_in v))
-      (subst (λ (x : Fields). AreStocked x (flat_map births_in (values_in (flushed_rows (request_of_part flush.ask.part))))) (sym same) brings.named);
-  planned = planned;
-  plan_is = plan_is;
-  settled_is = settled_is;
-  births_are = births_are;
-}
+pub made_of : (f now : Fields) (s : ℕ) (blocks : List ℕ) (of : List Cut) (v settled : Value) (kept births : List ℕ) (plan : Plan) → f ≡ now → IsSound f.stock → IsPublication now s blocks of (Settles v) kept
+    → planned_by f.stock plan ≡ planned_all (unplanned f.stock blocks) of → IsPlan f.stock plan → settled ≡ settle_value v (planned_births (unplanned f.stock blocks) of) → births ≡ births_with kept settled
+    → IsMade f s blocks of v settled kept births plan
+made_of f now s blocks of v settled kept births plan same sound brings planned plan_is settled_is births_are =
+    let own = subst (λ (x : Fields). IsPublication x s blocks of (Settles v) kept) (sym same) brings in
+    record {
+      sound = sound;
+      has = own.has;
+      cuts_are = own.cuts_are ∙ cuts_alone f.options v;
+      places = own.places;
+      enough = own.enough;
+      kept_stocked = own.kept_stocked;
+      named = subst (λ (bs : List ℕ). AreStocked f bs) (append-nil (births_in v)) own.named;
+      planned = planned;
+      plan_is = plan_is;
+      settled_is = settled_is;
+      births_are = births_are;
+    }
 
 -- nothing has changed after want of memory
 pub none_published : {E : Type 0} (before after : Fields) (step : Half → Half × rule.Answer) (blocks : List ℕ) (result : Result Published E) (e : E) → result ≡ Err e → after ≡ before → IsPublished before after step blocks result

@@ -35,14 +35,13 @@ use Rattle.sf_types.specs.Space.BlockRuns.{blocks_in}
 use Rattle.sf_retention.specs.Notes.{due_pairs}
 use Rattle.sf_retention.specs.declared.retention.Note.{Note}
 use Rattle.sf_retention.specs.declared.retention.Pair.{Pair}
-use Rattle.sf_versions.specs.declared.asks.Flush.{Flush}
-use Rattle.sf_versions.specs.Asks.{request_of_part}
 use Rattle.sf_store_half.specs.declared.commits.CommitPlan.{CommitPlan}
 use Rattle.sf_store_half.specs.declared.commits.RowBirths.{RowBirths}
+use Rattle.sf_store_half.specs.Inside.Publications.{IsPublication}
 use Rattle.sf_store_half.specs.declared.plans.Plan.{Plan}
 use Rattle.sf_store_half.specs.declared.session_fields.SessionField.{SessionField}
 use Rattle.sf_store_half.specs.Fields.{Fields, Keeps, held_in, is_session, session_field}
-use Rattle.sf_store_half.specs.HalfMoves.{AreEnough, ArePlaceable, AreStocked, BringsStocked, HasCutsOfRequest, HasField, IsRepacked, blocks_left_over, cuts_in, field_at, flushed_rows, new_places}
+use Rattle.sf_store_half.specs.HalfMoves.{AreEnough, ArePlaceable, AreStocked, HasField, IsRepacked, blocks_left_over, field_at, new_places}
 use Rattle.sf_store_half.specs.Inside.Commits.{CanHold, births_of_change, row_births, stock_with}
 use Rattle.sf_store_half.specs.Inside.Commits as commits
 use Rattle.sf_store_half.specs.Inside.Fields.{promised_blocks}
@@ -319,26 +318,27 @@ module _ (f : Fields) (s : ℕ) (blocks : List ℕ) (of : List Cut) (rows c : Ro
         one_of (inr a) = a
 
 -- what a flush of a commit brings
-pub commit_made_of : (f now : Fields) (s : ℕ) (flush : Flush) (blocks : List ℕ) (rows c : Rows) (kept : List ℕ) (plan : Plan) (commit : CommitPlan) → f ≡ now → IsSound f.stock → HasField now s → f.floor ≤ f.versions.now → BringsStocked now flush.ask
-    → request_of_part flush.ask.part ≡ rule.Commits rows → HasCutsOfRequest now.options flush → ArePlaceable now blocks → AreEnough now (cuts_in now.options flush) (length blocks) → kept ≡ flush.ask.kept
-    → planned_by f.stock plan ≡ planned_all (unplanned f.stock blocks) (cuts_in f.options flush) → plans.IsPlan f.stock plan → c ≡ settle rows (planned_births (unplanned f.stock blocks) (cuts_in f.options flush))
-    → IsStrictlySortedBy name_cmp (keys_of c) → commits.IsPlan f.versions f.notes c commit → commit.floor ≡ floor_after f.options f.floor (f.versions.now + 1) → IsCommitMade f s blocks (cuts_in f.options flush) rows c kept plan commit
-commit_made_of f now s flush blocks rows c kept plan commit same sound has reached brings request of places enough copied planned plan_is settled_is rising commit_is floor_is = record {
-  sound = sound;
-  has = subst (λ (x : Fields). HasField x s) (sym same) has;
-  reached = reached;
-  cuts_are = subst (λ (x : Fields). cuts_in x.options flush ≡ cuts x.options rows) (sym same) (of ∙ ap (λ (r : rule.Request). cuts now.options (flushed_rows r)) request);
-  places = subst (λ (x : Fields). ArePlaceable x blocks) (sym same) places;
-  enough = subst (λ (x : Fields). AreEnough x (cuts_in x.options flush) (length blocks)) (sym same) enough;
-  kept_stocked = subst (λ (x : Fields). AreStocked x kept) (sym same) (subst (AreStocked now) (sym copied) brings.kept);
-  named = subst (λ (x : Fields). AreStocked x (flat_map births_in (values_in rows))) (sym same) (subst (λ (r : rule.Request). AreStocked now (flat_map births_in (values_in (flushed_rows r)))) request brings.named);
-  planned = planned;
-  plan_is = plan_is;
-  settled_is = settled_is;
-  rising = rising;
-  commit_is = commit_is;
-  floor_is = floor_is;
-}
+pub commit_made_of : (f now : Fields) (s : ℕ) (blocks : List ℕ) (of : List Cut) (rows c : Rows) (kept : List ℕ) (plan : Plan) (commit : CommitPlan) → f ≡ now → IsSound f.stock → f.floor ≤ f.versions.now → IsPublication now s blocks of (rule.Commits rows) kept
+    → planned_by f.stock plan ≡ planned_all (unplanned f.stock blocks) of → plans.IsPlan f.stock plan → c ≡ settle rows (planned_births (unplanned f.stock blocks) of)
+    → IsStrictlySortedBy name_cmp (keys_of c) → commits.IsPlan f.versions f.notes c commit → commit.floor ≡ floor_after f.options f.floor (f.versions.now + 1) → IsCommitMade f s blocks of rows c kept plan commit
+commit_made_of f now s blocks of rows c kept plan commit same sound reached brings planned plan_is settled_is rising commit_is floor_is =
+    let own = subst (λ (x : Fields). IsPublication x s blocks of (rule.Commits rows) kept) (sym same) brings in
+    record {
+      sound = sound;
+      has = own.has;
+      reached = reached;
+      cuts_are = own.cuts_are;
+      places = own.places;
+      enough = own.enough;
+      kept_stocked = own.kept_stocked;
+      named = own.named;
+      planned = planned;
+      plan_is = plan_is;
+      settled_is = settled_is;
+      rising = rising;
+      commit_is = commit_is;
+      floor_is = floor_is;
+    }
 
 -- the session's field once its promise has ended, and its transaction too
 get_put : (xs : List SessionField) (i : ℕ) (d y : SessionField) → i < length xs → unwrap_or (slice_get (slice_set xs i y) i) d ≡ y

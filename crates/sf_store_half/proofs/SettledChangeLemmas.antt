@@ -14,7 +14,7 @@ use Rattle.sf_types.specs.Values.Marks.{Marked, Value, fresh_count, is_fresh}
 use Rattle.sf_types.specs.Table.Parts.{Rows}
 use Rattle.sf_types.specs.Values.Names.{name_cmp}
 use Rattle.sf_types.specs.Space.Cuts.{contents_of_value, segments_of, settle, settle_value}
-use Rattle.sf_laws.proofs.EachLemmas.{each_weaker}
+use Rattle.sf_laws.proofs.EachLemmas.{each_right, each_weaker}
 use Rattle.sf_laws.proofs.StretchLemmas.{IsContentSize, contents-joined, contents-sizes, segments-joined, segments_maximal, unstored_bytes}
 use Rattle.sf_chunk_map.specs.Contents.{StoredContent}
 use Rattle.sf_store_half.specs.Inside.Settled.{contents_of_change, contents_of_rows, front_chunks}
@@ -104,21 +104,11 @@ pub settle_named : (e : List ℕ × Option Value) (births : List ℕ) → keys_o
 settle_named (name, None) births = refl
 settle_named (name, Some v) births = refl
 
--- the names of the changes before one come before its name
-less_later : (x : List ℕ × Option Value) (m : Rows) (k : ℕ) (e : List ℕ × Option Value) → Each (λ name. name_cmp x.0 name ≡ Less) (keys_of m) → slice_get m k ≡ Some e → name_cmp x.0 e.0 ≡ Less
-less_later x [] k e all is = absurd cc
-less_later x (y ∷ m) zero e all is = let same : y ≡ e = cc in subst (λ (z : List ℕ × Option Value). name_cmp x.0 z.0 ≡ Less) same all.0
-less_later x (y ∷ m) (suc k) e all is = less_later x m k e all.1 is
-
-pub before_named : (m : Rows) (k : ℕ) (e : List ℕ × Option Value) (done : Rows) → IsStrictlySortedBy name_cmp (keys_of m) → slice_get m k ≡ Some e → keys_of done ≡ keys_of (take k m) → Each (λ other. name_cmp other.0 e.0 ≡ Less) done
+-- the names before one of a rising list come before it
+ordered_before : (done : Rows) (name : List ℕ) (names : List (List ℕ)) → IsStrictlySortedBy name_cmp (keys_of done ++ name ∷ names) → Each (λ other. name_cmp other.0 name ≡ Less) done
 unfolding IsStrictlySortedBy
-before_named m k e [] rising is same = tt
-before_named [] k e (d ∷ done) rising is same = absurd cc
-before_named (x ∷ m) zero e (d ∷ done) rising is same = absurd cc
-before_named (x ∷ m) (suc k) e (d ∷ done) rising is same =
-    let own : d.0 ≡ x.0 = cc in
-    let rest : keys_of done ≡ keys_of (take k m) = cc in
-    (ap (λ n. name_cmp n e.0) own ∙ less_later x m k e rising.0 is, before_named m k e done rising.1 is rest)
+ordered_before [] name names rising = tt
+ordered_before (d ∷ done) name names rising = ((each_right (λ other. name_cmp d.0 other ≡ Less) (keys_of done) (name ∷ names) rising.0).0, ordered_before done name names rising.1)
 
 -- a change with a value, once it is settled by its chunks
 module _ (e : List ℕ × Option Value) (name : List ℕ) (v : Value) (bytes : ℕ) (xs own : List StoredContent) (is : (name, Some v) ≡ e) (fresh : bytes ≡ fresh_count v) (taken : own ≡ front_chunks bytes xs)
@@ -141,54 +131,45 @@ module _ (e : List ℕ × Option Value) (name : List ℕ) (v : Value) (bytes : �
       ∙ ap (λ (x : List ℕ × Option Value). settle (x ∷ []) (map (λ (y : StoredContent). y.birth) xs)) is
 
 -- ---- the changes up to one are settled
--- Some changes are settled by the chunks before one; the bytes of the others are those of the contents that are left.
-pub record IsSettledTo (changes : Rows) (chunks : List StoredContent) (done : Rows) (from at : ℕ) : Type 0 where
-  pub settled : done ++ settle (drop at changes) (map (λ x. x.birth) (drop from chunks)) ≡ settle changes (map (λ x. x.birth) chunks)
-  pub bytes : map (λ x. x.bytes) (drop from chunks) ≡ contents_of_rows (drop at changes)
-  pub names : keys_of done ≡ keys_of (take at changes)
+-- Some changes are settled by the chunks before one; the bytes of the rest are those of the contents that are left.
+pub record IsSettledTo (changes : Rows) (chunks : List StoredContent) (done rest : Rows) (from : ℕ) : Type 0 where
+  pub settled : done ++ settle rest (map (λ x. x.birth) (drop from chunks)) ≡ settle changes (map (λ x. x.birth) chunks)
+  pub bytes : map (λ x. x.bytes) (drop from chunks) ≡ contents_of_rows rest
+  pub names : IsStrictlySortedBy name_cmp (keys_of done ++ keys_of rest)
   pub within : from ≤ length chunks
 
 keys_pushed : (es : Rows) (e : List ℕ × Option Value) → keys_of (es ++ e ∷ []) ≡ keys_of es ++ e.0 ∷ []
 keys_pushed [] e = refl
 keys_pushed (x ∷ es) e = ap (λ (ks : List (List ℕ)). x.0 ∷ ks) (keys_pushed es e)
 
-taken_next : (xs : Rows) (at : ℕ) (e : List ℕ × Option Value) → slice_get xs at ≡ Some e → take (at + 1) xs ≡ take at xs ++ e ∷ []
-taken_next [] at e is = absurd cc
-taken_next (x ∷ xs) zero e is = let same : x ≡ e = cc in ap (λ (y : List ℕ × Option Value). y ∷ []) same
-taken_next (x ∷ xs) (suc at) e is = let up : suc at + 1 ≡ suc (at + 1) = omega arith in ap (λ n. take n (x ∷ xs)) up ∙ ap (λ (ys : Rows). x ∷ ys) (taken_next xs at e is)
+module _ (changes : Rows) (chunks : List StoredContent) (done : Rows) (e : List ℕ × Option Value) (rest : Rows) (from : ℕ) (to : IsSettledTo changes chunks done (e ∷ rest) from) where
+  bytes_here : map (λ (x : StoredContent). x.bytes) (drop from chunks) ≡ contents_of_change e ++ contents_of_rows rest
+  bytes_here = to.bytes
 
-module _ (changes : Rows) (chunks : List StoredContent) (done : Rows) (from at : ℕ) (e : List ℕ × Option Value) (to : IsSettledTo changes chunks done from at) (is : slice_get changes at ≡ Some e) where
-  here : drop at changes ≡ e ∷ drop (at + 1) changes
-  here = item_at changes at e is
-
-  bytes_here : map (λ (x : StoredContent). x.bytes) (drop from chunks) ≡ contents_of_change e ++ contents_of_rows (drop (at + 1) changes)
-  bytes_here = to.bytes ∙ ap contents_of_rows here
+  name_here : (own : List ℕ × Option Value) → own ∷ [] ≡ settle (e ∷ []) (map (λ (x : StoredContent). x.birth) (drop from chunks)) → own.0 ≡ e.0
+  name_here own told = let keys : own.0 ∷ [] ≡ e.0 ∷ [] = ap keys_of told ∙ settle_named e (map (λ (x : StoredContent). x.birth) (drop from chunks)) in cc
 
   pub front_here : take (length (contents_of_change e)) (map (λ (x : StoredContent). x.bytes) (drop from chunks)) ≡ contents_of_change e
-  front_here = ap (take (length (contents_of_change e))) bytes_here ∙ take-append_seam (contents_of_change e) (contents_of_rows (drop (at + 1) changes))
+  front_here = ap (take (length (contents_of_change e))) bytes_here ∙ take-append_seam (contents_of_change e) (contents_of_rows rest)
 
-  pub names_before : IsStrictlySortedBy name_cmp (keys_of changes) → (own : List ℕ × Option Value) → own ∷ [] ≡ settle (e ∷ []) (map (λ (x : StoredContent). x.birth) (drop from chunks)) → All (λ other. name_cmp other.0 own.0 ≡ Less) done
-  names_before rising own told =
+  pub names_before : (own : List ℕ × Option Value) → own ∷ [] ≡ settle (e ∷ []) (map (λ (x : StoredContent). x.birth) (drop from chunks)) → All (λ other. name_cmp other.0 own.0 ≡ Less) done
+  names_before own told =
       All-from_recursion (λ (other : List ℕ × Option Value). name_cmp other.0 own.0 ≡ Less) done
-      (subst (λ (n : List ℕ). Each (λ other. name_cmp other.0 n ≡ Less) done) (sym (name_here own told)) (before_named changes at e done rising is to.names))
-    where
-      name_here : (own : List ℕ × Option Value) → own ∷ [] ≡ settle (e ∷ []) (map (λ (x : StoredContent). x.birth) (drop from chunks)) → own.0 ≡ e.0
-      name_here own told = let keys : own.0 ∷ [] ≡ e.0 ∷ [] = ap keys_of told ∙ settle_named e (map (λ (x : StoredContent). x.birth) (drop from chunks)) in cc
+      (subst (λ (n : List ℕ). Each (λ other. name_cmp other.0 n ≡ Less) done) (sym (name_here own told)) (ordered_before done e.0 (keys_of rest) to.names))
 
   pub within_here : (count : ℕ) → count ≡ length (contents_of_change e) → from + count ≤ length chunks
   within_here count same =
       let left = length-drop from chunks in
       let size = length-map (drop from chunks) (λ (x : StoredContent). x.bytes) in
-      let all : length (map (λ (x : StoredContent). x.bytes) (drop from chunks)) ≡ length (contents_of_change e ++ contents_of_rows (drop (at + 1) changes)) = ap (λ (bs : List (List ℕ)). length bs) bytes_here in
-      let split = length-append (contents_of_change e) (contents_of_rows (drop (at + 1) changes)) in
+      let all : length (map (λ (x : StoredContent). x.bytes) (drop from chunks)) ≡ length (contents_of_change e ++ contents_of_rows rest) = ap (λ (bs : List (List ℕ)). length bs) bytes_here in
+      let split = length-append (contents_of_change e) (contents_of_rows rest) in
       let before = to.within in
       omega (arith, left, size, all, split, same, before)
 
   pub settled_next : (own : List ℕ × Option Value) (count : ℕ) → own ∷ [] ≡ settle (e ∷ []) (map (λ (x : StoredContent). x.birth) (drop from chunks)) → count ≡ length (contents_of_change e)
-      → IsSettledTo changes chunks (done ++ own ∷ []) (from + count) (at + 1)
+      → IsSettledTo changes chunks (done ++ own ∷ []) rest (from + count)
   settled_next own count told same =
       let births = map (λ (x : StoredContent). x.birth) (drop from chunks) in
-      let rest = drop (at + 1) changes in
       let later : drop count (drop from chunks) ≡ drop (from + count) chunks = drop-drop count from chunks in
       record {
         settled =
@@ -196,14 +177,14 @@ module _ (changes : Rows) (chunks : List StoredContent) (done : Rows) (from at :
             ∙ ap (λ (xs : Rows). done ++ (xs ++ settle rest (map (λ (x : StoredContent). x.birth) (drop (from + count) chunks)))) told
             ∙ ap (λ (bs : List ℕ). done ++ (settle (e ∷ []) births ++ settle rest bs))
             (ap (map (λ (x : StoredContent). x.birth)) (sym later) ∙ dropped_mapped (λ (x : StoredContent). x.birth) count (drop from chunks) ∙ ap (λ n. drop n births) same)
-            ∙ ap (λ (xs : Rows). done ++ xs) (sym (settle_split e rest births) ∙ ap (λ (es : Rows). settle es births) (sym here))
+            ∙ ap (λ (xs : Rows). done ++ xs) (sym (settle_split e rest births))
             ∙ to.settled;
         bytes =
             ap (map (λ (x : StoredContent). x.bytes)) (sym later) ∙ dropped_mapped (λ (x : StoredContent). x.bytes) count (drop from chunks)
             ∙ ap (drop count) bytes_here ∙ ap (λ n. drop n (contents_of_change e ++ contents_of_rows rest)) same ∙ drop-append_seam (contents_of_change e) (contents_of_rows rest);
         names =
-            keys_pushed done own ∙ ap (λ (ks : List (List ℕ)). ks ++ own.0 ∷ []) to.names
-            ∙ ap (λ (n : List ℕ). keys_of (take at changes) ++ n ∷ []) (let keys : own.0 ∷ [] ≡ e.0 ∷ [] = ap keys_of told ∙ settle_named e births in cc)
-            ∙ sym (ap keys_of (taken_next changes at e is) ∙ keys_pushed (take at changes) e);
+            subst (λ (ks : List (List ℕ)). IsStrictlySortedBy name_cmp ks)
+            (sym (ap (λ (ks : List (List ℕ)). ks ++ keys_of rest) (keys_pushed done own) ∙ append_assoc (keys_of done) (own.0 ∷ []) (keys_of rest) ∙ ap (λ (n : List ℕ). keys_of done ++ n ∷ keys_of rest) (name_here own told)))
+            to.names;
         within = within_here count same;
       }

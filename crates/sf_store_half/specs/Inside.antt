@@ -6,5 +6,6 @@ pub mod Fields
 pub mod Floors
 pub mod Plans
 pub mod Promises
+pub mod Publications
 pub mod Settled
 pub mod Trials

@@ -1,6 +1,9 @@
 //! What a commit makes of versions, notes and the stock.
 ghost use Rattle.std.specs.Prelude.{◌≡◌, ◌+◌, ◌-◌, ◌≤◌, ◌<◌, ◌^◌, ◌++◌, [], ◌∷◌, length, drop, All, IfOk, OnOk};
+ghost use Rattle.std.specs.List.Sorted.{IsStrictlySortedBy};
+ghost use Rattle.std.specs.Map.{keys_of};
 ghost use Rattle.sf_types.specs.declared.holder.Holder.TheVariants.{Session};
+ghost use Rattle.sf_types.specs.Values.Names.{name_cmp};
 ghost use Rattle.sf_types.specs.Calls.TransactionEnds.{floor_after};
 ghost use Rattle.sf_retention.specs.Notes.{due_pairs};
 ghost use Rattle.sf_stock.specs.Stocks.{IsSound, with_holder};
@@ -222,6 +225,45 @@ fn hold_births(stock: &mut Stock, number: u64, held: List<RowBirths>, session: u
         stock.hold(Holder::Version(row, number), births);
     }
     stock.hold(Holder::Session(session), kept);
+}
+
+// The room for new contents, and for the births of versions and of a session.
+fn room_of(items: u64, versions: u64, session: u64) -> Mem<u64>
+    ensures { IfOk result (λ room. room ≡ items + versions + session) }
+{
+    let Some(births) = items.checked_add(versions) else {
+        return Err(OutOfMemory);
+    };
+    match births.checked_add(session) {
+        Some(room) => Ok(room),
+        None => Err(OutOfMemory),
+    }
+}
+
+/// Makes the room that a planned commit of these changes takes, with new contents that take so many items and a session that holds
+/// `kept`. Nothing that is held changes.
+pub fn make_commit_room(
+    versions: &mut Versions,
+    notes: &mut Retention,
+    stock: &mut Stock,
+    changes: &ChangeList,
+    plan: &CommitPlan,
+    items: u64,
+    kept: &Births,
+) -> Mem<()>
+    ensures versions { versions.new.held ≡ versions.old.held }
+    ensures notes { notes.new.held ≡ notes.old.held }
+    ensures stock { stock.new.held ≡ stock.old.held }
+    ensures versions_room { OnOk result (length changes.now ≤ versions.new.spare) }
+    ensures notes_room { OnOk result (length plan.now.displaced ≤ notes.new.spare) }
+    ensures stock_room { OnOk result (items + plan.now.births + length kept.now ≤ stock.new.spare) }
+    ensures rising { IsStrictlySortedBy name_cmp (keys_of changes.now) }
+{
+    let rows = changes.len() as u64;
+    let room = room_of(items, plan.births, kept.as_slice().len() as u64)?;
+    versions.make_room(rows)?;
+    notes.make_room(plan.displaced.len() as u64)?;
+    stock.make_room(room)
 }
 
 /// Makes a planned commit: each row that it names gets its version, which holds its births; then the session holds `kept`; and

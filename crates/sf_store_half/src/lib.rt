@@ -13,6 +13,7 @@ mod openings;
 mod placing;
 mod plain_answers;
 mod plans;
+mod printed_cuts;
 mod publications;
 mod reads;
 mod reserves;

@@ -3,22 +3,18 @@ ghost use Rattle.std.specs.Prelude.{◌≡◌, ◌+◌, ◌<◌, ◌≤◌, ◌^
 ghost use Rattle.sf_types.specs.declared.limits.TheConstants.{CONTENT_BYTES};
 ghost use Rattle.sf_types.specs.Space.BlockRuns.{blocks_in};
 ghost use Rattle.sf_types.specs.Space.Contents.{blocks_of};
-ghost use Rattle.sf_types.specs.Space.Cuts.{Cut};
-ghost use Rattle.sf_dedup.specs.Prints.{print_of};
 ghost use Rattle.sf_dedup.specs.Contents.{birth_with, content_at};
 ghost use Rattle.sf_stock.specs.Stocks.{shared_birth};
-ghost use Rattle.sf_store_half.specs.HalfMoves.{HasPrints, cuts_in};
-ghost use Rattle.sf_store_half.specs.Inside.CutNotes.{cut_of, stocked_birth};
+ghost use Rattle.sf_store_half.specs.Inside.CutNotes.{stocked_birth};
 ghost use Rattle.sf_store_half.specs.Inside.Plans.{IsPlan, firsts_with, planned_all, planned_birth, planned_births, planned_by, planned_with, shared_entries, stocked_from, unplanned};
 
-use crate::cut_notes::is_sharing;
+use crate::printed_cuts::PrintedCut;
 use sf_chunk_map::{Chunk, ChunkList};
 use sf_chunk_sizes::blocks;
-use sf_dedup::{Index, Print};
+use sf_dedup::Index;
 use sf_free_commit::Committed;
 use sf_stock::{NewContent, Stock};
-use sf_types::{Blob, List, Mem, Options, OutOfMemory, Runs, TryCopy};
-use sf_versions::Flush;
+use sf_types::{List, Mem, OutOfMemory, Runs, TryCopy};
 use std::alloc::Global;
 
 /// New contents of a publication, before any is placed: an index of those that are shared, the number of the next birth, the
@@ -43,34 +39,38 @@ fn take_blocks(alloc: Global, left: &mut Committed, count: u64) -> Mem<Runs>
     Ok(runs)
 }
 
-// The birth of the shared content of these bytes, among those of a stock and then those of a plan.
-fn find_planned(stock: &Stock, plan: &Plan, print: &Print, content: &Blob) -> Option<u128>
-    requires print { print.now ≡ print_of content.now }
-    requires plan { IsPlan stock.now.held plan.now }
-    ensures { result ≡ shared_birth (planned_by stock.now.held plan.now).stocked content.now }
+/// All runs that are left.
+pub fn rest_of(alloc: Global, left: Committed) -> Mem<Runs>
+    ensures { IfOk result (λ runs. blocks_in runs.held ≡ blocks_in left.held) }
 {
-    match stock.find(print, content) {
+    let mut rest = left;
+    let mut runs = Runs::new(alloc);
+    runs.make_room(rest.run_count() as u64)?;
+    let count = rest.parked();
+    let _taken = rest.take_batch(count, &mut runs);
+    Ok(runs)
+}
+
+// The birth of the shared content of a cut's bytes, among those of a stock and then those of a plan.
+fn find_planned(stock: &Stock, plan: &Plan, cut: &PrintedCut) -> Option<u128>
+    requires { IsPlan stock.now.held plan.now }
+    ensures { result ≡ shared_birth (planned_by stock.now.held plan.now).stocked cut.now.bytes }
+{
+    match stock.find(&cut.print, &cut.content) {
         Some(birth) => Some(birth),
-        None => plan.firsts.find(print, content),
+        None => plan.firsts.find(&cut.print, &cut.content),
     }
 }
 
-// Puts a new content with those of a plan, and answers its birth.
-fn add_new(
-    plan: &mut Plan,
-    content: &Blob,
-    print: &Print,
-    is_sharing: bool,
-    new: NewContent,
-) -> Mem<u128>
-    requires print { print.now ≡ print_of content.now }
-    requires apart { is_sharing ≡ true → birth_with plan.old.firsts.held content.now ≡ None }
+// Puts the new content of a cut with those of a plan, and answers its birth.
+fn add_new(plan: &mut Plan, cut: &PrintedCut, new: NewContent) -> Mem<u128>
+    requires apart { cut.now.is_sharing ≡ true → birth_with plan.old.firsts.held cut.now.bytes ≡ None }
     requires unborn { content_at plan.old.firsts.held plan.old.next ≡ None }
     ensures birth { IfOk result (λ birth. birth ≡ plan.old.next) }
     ensures news { OnOk result (plan.new.news.items ≡ plan.old.news.items ++ new ∷ []) }
     ensures next { OnOk result (plan.new.next ≡ plan.old.next + 1) }
     ensures items { OnOk result (plan.new.items ≡ plan.old.items + (1 + length new.runs)) }
-    ensures firsts { OnOk result (plan.new.firsts.held ≡ firsts_with plan.old.firsts.held plan.old.next (cut_of content.now is_sharing)) }
+    ensures firsts { OnOk result (plan.new.firsts.held ≡ firsts_with plan.old.firsts.held plan.old.next cut.now) }
     ensures left { OnOk result (plan.new.left.held ≡ plan.old.left.held) }
 {
     let birth = plan.next;
@@ -80,8 +80,8 @@ fn add_new(
     let Some(items) = plan.items.checked_add(new.item_count()) else {
         return Err(OutOfMemory);
     };
-    if is_sharing {
-        plan.firsts.add(birth, *print, content.copy()?)?;
+    if cut.is_sharing {
+        plan.firsts.add(birth, cut.print, cut.content.copy()?)?;
     }
     plan.news.push(new)?;
     plan.next = next;
@@ -90,55 +90,42 @@ fn add_new(
 }
 
 // A cut that isn't found becomes a new content of a plan.
-fn plan_new(
-    alloc: Global,
-    stock: &Stock,
-    plan: &mut Plan,
-    content: &Blob,
-    print: &Print,
-    is_sharing: bool,
-) -> Mem<u128>
-    requires print { print.now ≡ print_of content.now }
+fn plan_new(alloc: Global, stock: &Stock, plan: &mut Plan, cut: &PrintedCut) -> Mem<u128>
     requires plan { IsPlan stock.now.held plan.old }
-    requires size { length content.now ≤ CONTENT_BYTES }
-    requires apart { stocked_birth (planned_by stock.now.held plan.old).stocked (cut_of content.now is_sharing) ≡ None }
-    ensures birth { IfOk result (λ birth. birth ≡ planned_birth (planned_by stock.now.held plan.old) (cut_of content.now is_sharing)) }
-    ensures planned { OnOk result (planned_by stock.now.held plan.new ≡ planned_with (planned_by stock.now.held plan.old) (cut_of content.now is_sharing)) }
+    requires size { length cut.now.bytes ≤ CONTENT_BYTES }
+    requires apart { stocked_birth (planned_by stock.now.held plan.old).stocked cut.now ≡ None }
+    ensures birth { IfOk result (λ birth. birth ≡ planned_birth (planned_by stock.now.held plan.old) cut.now) }
+    ensures planned { OnOk result (planned_by stock.now.held plan.new ≡ planned_with (planned_by stock.now.held plan.old) cut.now) }
     ensures plan { OnOk result (IsPlan stock.now.held plan.new) }
 {
-    let runs = take_blocks(alloc, &mut plan.left, blocks(content.len() as u64))?;
-    let new = NewContent::new(alloc, content, *print, is_sharing, runs.as_slice())?;
-    let birth = add_new(plan, content, print, is_sharing, new)?;
+    let count = blocks(cut.content.len() as u64);
+    let runs = take_blocks(alloc, &mut plan.left, count)?;
+    let (content, print) = (&cut.content, cut.print);
+    let new = NewContent::new(alloc, content, print, cut.is_sharing, runs.as_slice())?;
+    let birth = add_new(plan, cut, new)?;
     Ok(birth)
 }
 
 // What a cut becomes: the chunk of the birth that was found, or of a new one.
-fn plan_cut(
-    alloc: Global,
-    stock: &Stock,
-    plan: &mut Plan,
-    content: &Blob,
-    print: &Print,
-    is_sharing: bool,
-) -> Mem<Chunk>
-    requires print { print.now ≡ print_of content.now }
+fn plan_cut(alloc: Global, stock: &Stock, plan: &mut Plan, cut: PrintedCut) -> Mem<Chunk>
     requires plan { IsPlan stock.now.held plan.old }
-    requires some { 1 ≤ length content.now }
-    requires size { length content.now ≤ CONTENT_BYTES }
-    ensures chunk { IfOk result (λ chunk. chunk ≡ record { birth = planned_birth (planned_by stock.now.held plan.old) (cut_of content.now is_sharing); bytes = content.now }) }
-    ensures planned { OnOk result (planned_by stock.now.held plan.new ≡ planned_with (planned_by stock.now.held plan.old) (cut_of content.now is_sharing)) }
+    requires some { 1 ≤ length cut.bytes }
+    requires size { length cut.bytes ≤ CONTENT_BYTES }
+    ensures chunk { IfOk result (λ chunk. chunk ≡ record { birth = planned_birth (planned_by stock.now.held plan.old) cut; bytes = cut.bytes }) }
+    ensures planned { OnOk result (planned_by stock.now.held plan.new ≡ planned_with (planned_by stock.now.held plan.old) cut) }
     ensures plan { OnOk result (IsPlan stock.now.held plan.new) }
 {
-    let found = if is_sharing {
-        find_planned(stock, plan, print, content)
+    let found = if cut.is_sharing {
+        find_planned(stock, plan, &cut)
     } else {
         None
     };
     let birth = match found {
         Some(birth) => birth,
-        None => plan_new(alloc, stock, plan, content, print, is_sharing)?,
+        None => plan_new(alloc, stock, plan, &cut)?,
     };
-    Ok(Chunk::new(birth, content.copy()?, *print))
+    let PrintedCut { content, print, .. } = cut;
+    Ok(Chunk::new(birth, content, print))
 }
 
 // A plan without contents, and these blocks.
@@ -159,36 +146,25 @@ fn new_plan(alloc: Global, stock: &Stock, runs: &Runs) -> Mem<Plan>
     })
 }
 
-/// What the cuts of a flush become, in their order: the new contents in these blocks, and the chunk of each cut.
+/// What cuts become, in their order: the new contents in these blocks, and the chunk of each cut.
 pub fn plan_cuts(
     alloc: Global,
     stock: &Stock,
-    options: &Options,
-    flush: &Flush,
+    cuts: Vec<PrintedCut>,
     runs: &Runs,
 ) -> Mem<(Plan, ChunkList)>
-    requires prints { HasPrints flush.now }
-    requires sizes { All (λ cut. (1 ≤ length cut.bytes) × (length cut.bytes ≤ CONTENT_BYTES)) (cuts_in options.now flush.now) }
+    requires sizes { All (λ cut. (1 ≤ length cut.bytes) × (length cut.bytes ≤ CONTENT_BYTES)) cuts.items }
     requires below { All (λ block. block < 2 ^ 32) (blocks_in runs.now.held) }
     requires few { length (blocks_in runs.now.held) < 2 ^ 64 }
-    ensures births { IfOk result (λ planned. map (λ chunk. chunk.birth) planned.1 ≡ planned_births (unplanned stock.now.held (blocks_in runs.now.held)) (cuts_in options.now flush.now)) }
-    ensures bytes { IfOk result (λ planned. map (λ chunk. chunk.bytes) planned.1 ≡ map (λ cut. cut.bytes) (cuts_in options.now flush.now)) }
-    ensures planned { IfOk result (λ planned. planned_by stock.now.held planned.0 ≡ planned_all (unplanned stock.now.held (blocks_in runs.now.held)) (cuts_in options.now flush.now)) }
+    ensures births { IfOk result (λ planned. map (λ chunk. chunk.birth) planned.1 ≡ planned_births (unplanned stock.now.held (blocks_in runs.now.held)) cuts.items) }
+    ensures bytes { IfOk result (λ planned. map (λ chunk. chunk.bytes) planned.1 ≡ map (λ cut. cut.bytes) cuts.items) }
+    ensures planned { IfOk result (λ planned. planned_by stock.now.held planned.0 ≡ planned_all (unplanned stock.now.held (blocks_in runs.now.held)) cuts.items) }
     ensures plan { IfOk result (λ planned. IsPlan stock.now.held planned.0) }
 {
-    // There are no more cuts than contents.
-    let _count = flush.contents.len();
     let mut plan = new_plan(alloc, stock, runs)?;
     let mut chunks = Vec::new(alloc);
-    let mut at = 0;
-    while let (Some(content), Some(print), Some(choice)) = (
-        flush.contents.get(at),
-        flush.prints.get(at),
-        flush.choices.get(at),
-    ) {
-        let is_sharing = is_sharing(options, *choice);
-        chunks.push(plan_cut(alloc, stock, &mut plan, content, print, is_sharing)?)?;
-        at += 1;
+    for cut in cuts {
+        chunks.push(plan_cut(alloc, stock, &mut plan, cut)?)?;
     }
     Ok((plan, List::from_vec(chunks)))
 }

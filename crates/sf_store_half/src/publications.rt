@@ -1,8 +1,8 @@
 //! Publications of calls to which blocks were promised.
-ghost use Rattle.std.specs.Prelude.{◌≡◌, ◌+◌, ◌-◌, ◌≤◌, None, ◌<◌, ◌^◌, length, slice_get, slice_set, sum_by, unwrap_or, All, IfOk, OnOk, OnErr};
+ghost use Rattle.std.specs.Prelude.{◌≡◌, ◌≤◌, ◌<◌, ◌^◌, ◌-◌, None, Ok, length, map, slice_get, slice_set, sum_by, unwrap_or, All, IfOk, OnOk, OnErr};
 ghost use Rattle.sf_types.specs.Space.BlockRuns.{blocks_in};
-ghost use Rattle.sf_types.specs.Space.Cuts.{settle_value};
-ghost use Rattle.sf_types.specs.Space.Cuts.{settle};
+ghost use Rattle.sf_types.specs.declared.limits.TheConstants.{CONTENT_BYTES};
+ghost use Rattle.sf_types.specs.Space.Cuts.{contents_of_value, settle, settle_value};
 ghost use Rattle.sf_types.specs.Halves.Asks.{Half, new_kept};
 ghost use Rattle.sf_types.specs.Halves.Asks as rule;
 ghost use Rattle.sf_types.specs.Halves.Flushes.{half_publish};
@@ -12,33 +12,22 @@ ghost use Rattle.sf_store_half.specs.HalfMoves.{AreEnough, ArePlaceable, BringsS
 ghost use Rattle.sf_store_half.specs.Inside.Answered.{IsPublished};
 ghost use Rattle.sf_store_half.specs.Inside.Fields.{promised_blocks};
 ghost use Rattle.sf_store_half.specs.Inside.Plans.{IsPlan, planned_all, planned_births, planned_by, unplanned};
+ghost use Rattle.sf_store_half.specs.Inside.Publications.{IsPublication};
+ghost use Rattle.sf_store_half.specs.Inside.Settled.{contents_of_rows};
 
-use crate::commits::{make_commit, plan_commit};
+use crate::commits::{make_commit, make_commit_room, plan_commit};
 use crate::placing::{end_hold, place_all, publish_births};
-use crate::plans::{Plan, plan_cuts};
+use crate::plans::{Plan, plan_cuts, rest_of};
+use crate::printed_cuts::{PrintedCut, printed_cuts};
 use crate::row_answers::with_births;
 use crate::session_fields::{Promised, SessionField, set_field, take_promise};
 use crate::settled_changes::settle_changes;
 use crate::store_half::{Published, StoreHalf};
 use sf_chunk_map::Map;
-use sf_free_commit::Committed;
 use sf_stock::Stock;
-use sf_types::{Mem, Options, OutOfMemory, Runs, TryCopy};
-use sf_versions::{Answer, ChangeList, Flush, Part};
-use sf_write_gather::settle;
+use sf_types::{Births, Mem, OutOfMemory, Runs, TryCopy};
+use sf_versions::{Answer, Ask, ChangeList, Flush, Part};
 use std::alloc::Global;
-
-// All runs that are left.
-fn rest_of(alloc: Global, left: Committed) -> Mem<Runs>
-    ensures { IfOk result (λ runs. blocks_in runs.held ≡ blocks_in left.held) }
-{
-    let mut rest = left;
-    let mut runs = Runs::new(alloc);
-    runs.make_room(rest.run_count() as u64)?;
-    let count = rest.parked();
-    let _taken = rest.take_batch(count, &mut runs);
-    Ok(runs)
-}
 
 // Ends the promise of a session, which is one of these, and takes its blocks off those that are promised.
 fn end_promise(fields: &mut Vec<SessionField>, promised: &mut u64, session: u16)
@@ -56,63 +45,47 @@ fn end_promise(fields: &mut Vec<SessionField>, promised: &mut u64, session: u16)
     }
 }
 
-// A plan of the cuts of a value in these blocks, and the value that is settled by it.
+// A plan of the cuts of a value in these blocks, and the value that is settled by it, in place.
 fn plan_value(
     alloc: Global,
     stock: &Stock,
-    options: &Options,
-    flush: &Flush,
+    cuts: Vec<PrintedCut>,
     runs: &Runs,
-    value: &Map,
+    value: Map,
 ) -> Mem<(Plan, Map)>
-    requires prints { HasPrints flush.now }
-    requires value { request_of_part flush.now.ask.part ≡ rule.Settles value.now }
-    requires cuts { HasCutsOfRequest options.now flush.now }
+    requires sizes { All (λ cut. (1 ≤ length cut.bytes) × (length cut.bytes ≤ CONTENT_BYTES)) cuts.items }
+    requires bytes { map (λ cut. cut.bytes) cuts.items ≡ contents_of_value value }
     requires below { All (λ block. block < 2 ^ 32) (blocks_in runs.now.held) }
     requires few { length (blocks_in runs.now.held) < 2 ^ 64 }
-    ensures planned { IfOk result (λ made. planned_by stock.now.held made.0 ≡ planned_all (unplanned stock.now.held (blocks_in runs.now.held)) (cuts_in options.now flush.now)) }
+    ensures planned { IfOk result (λ made. planned_by stock.now.held made.0 ≡ planned_all (unplanned stock.now.held (blocks_in runs.now.held)) cuts.items) }
     ensures plan { IfOk result (λ made. IsPlan stock.now.held made.0) }
-    ensures settled { IfOk result (λ made. made.1 ≡ settle_value value.now (planned_births (unplanned stock.now.held (blocks_in runs.now.held)) (cuts_in options.now flush.now))) }
+    ensures settled { IfOk result (λ made. made.1 ≡ settle_value value (planned_births (unplanned stock.now.held (blocks_in runs.now.held)) cuts.items)) }
 {
-    let (plan, chunks) = plan_cuts(alloc, stock, options, flush, runs)?;
-    let settled = settle(value, &chunks)?;
+    let (plan, chunks) = plan_cuts(alloc, stock, cuts, runs)?;
+    let mut settled = value;
+    settled.settle_in(&chunks)?;
     Ok((plan, settled))
 }
 
-// A plan of the cuts of changes in these blocks, and the changes that are settled by it.
+// A plan of the cuts of changes in these blocks, and the changes that are settled by it, in place.
 fn plan_changes(
     alloc: Global,
     stock: &Stock,
-    options: &Options,
-    flush: &Flush,
+    cuts: Vec<PrintedCut>,
     runs: &Runs,
-    changes: &ChangeList,
+    changes: ChangeList,
 ) -> Mem<(Plan, ChangeList)>
-    requires prints { HasPrints flush.now }
-    requires changes { request_of_part flush.now.ask.part ≡ rule.Commits changes.now }
-    requires cuts { HasCutsOfRequest options.now flush.now }
+    requires sizes { All (λ cut. (1 ≤ length cut.bytes) × (length cut.bytes ≤ CONTENT_BYTES)) cuts.items }
+    requires bytes { map (λ cut. cut.bytes) cuts.items ≡ contents_of_rows changes }
     requires below { All (λ block. block < 2 ^ 32) (blocks_in runs.now.held) }
     requires few { length (blocks_in runs.now.held) < 2 ^ 64 }
-    ensures planned { IfOk result (λ made. planned_by stock.now.held made.0 ≡ planned_all (unplanned stock.now.held (blocks_in runs.now.held)) (cuts_in options.now flush.now)) }
+    ensures planned { IfOk result (λ made. planned_by stock.now.held made.0 ≡ planned_all (unplanned stock.now.held (blocks_in runs.now.held)) cuts.items) }
     ensures plan { IfOk result (λ made. IsPlan stock.now.held made.0) }
-    ensures settled { IfOk result (λ made. made.1 ≡ settle changes.now (planned_births (unplanned stock.now.held (blocks_in runs.now.held)) (cuts_in options.now flush.now))) }
+    ensures settled { IfOk result (λ made. made.1 ≡ settle changes (planned_births (unplanned stock.now.held (blocks_in runs.now.held)) cuts.items)) }
 {
-    let (plan, chunks) = plan_cuts(alloc, stock, options, flush, runs)?;
+    let (plan, chunks) = plan_cuts(alloc, stock, cuts, runs)?;
     let settled = settle_changes(alloc, changes, &chunks)?;
     Ok((plan, settled))
-}
-
-// The room for new contents, and for the births of versions and of a session.
-fn room_of(items: u64, versions: u64, session: u64) -> Mem<u64>
-    ensures { IfOk result (λ room. room ≡ items + versions + session) }
-{
-    let Some(births) = items.checked_add(versions) else {
-        return Err(OutOfMemory);
-    };
-    match births.checked_add(session) {
-        Some(room) => Ok(room),
-        None => Err(OutOfMemory),
-    }
 }
 
 impl StoreHalf {
@@ -135,36 +108,60 @@ impl StoreHalf {
             → blocks_in published.unused.held ≡ blocks_left_over h (half_publish h session (request_of_part flush.ask.part) (cuts_in self.old.options flush) flush.ask.kept).0 (blocks_in runs.held)) }
         ensures err { OnErr result (self.new ≡ self.old) }
     {
-        self.publish_flush(session, &runs, &flush)
+        self.publish_flush(session, runs, flush)
     }
 
-    // Publishes a flush.
-    fn publish_flush(&mut self, session: u16, runs: &Runs, flush: &Flush) -> Mem<Published>
+    // Publishes a flush, whose parts move on.
+    fn publish_flush(&mut self, session: u16, runs: Runs, flush: Flush) -> Mem<Published>
         requires session { HasField self.old session }
-        requires births { BringsStocked self.old flush.now.ask }
-        requires prints { HasPrints flush.now }
-        requires cuts { HasCutsOfRequest self.old.options flush.now }
-        requires placeable { ArePlaceable self.old (blocks_in runs.now.held) }
-        requires enough { AreEnough self.old (cuts_in self.old.options flush.now) (length (blocks_in runs.now.held)) }
-        ensures { IsPublished self.old self.new (λ h. half_publish h session (request_of_part flush.now.ask.part) (cuts_in self.old.options flush.now) flush.now.ask.kept) (blocks_in runs.now.held) result }
+        requires births { BringsStocked self.old flush.ask }
+        requires prints { HasPrints flush }
+        requires cuts { HasCutsOfRequest self.old.options flush }
+        requires placeable { ArePlaceable self.old (blocks_in runs.held) }
+        requires enough { AreEnough self.old (cuts_in self.old.options flush) (length (blocks_in runs.held)) }
+        ensures { IsPublished self.old self.new (λ h. half_publish h session (request_of_part flush.ask.part) (cuts_in self.old.options flush) flush.ask.kept) (blocks_in runs.held) result }
     {
-        match &flush.ask.part {
-            Part::Settle(value) => self.publish_value(session, runs, flush, value),
-            Part::Commit(changes) => self.publish_commit(session, runs, flush, changes),
-            _ => self.publish_nothing(runs),
+        let alloc = *self.sessions.allocator();
+        let Flush {
+            contents,
+            prints,
+            choices,
+            ask,
+        } = flush;
+        let Ask { call, part, kept } = ask;
+        drop(call);
+        let cuts = printed_cuts(alloc, &self.options, &contents, &prints, &choices)?;
+        self.publish_part(session, runs, cuts, part, kept)
+    }
+
+    // Publishes what a call flushes, by its part.
+    fn publish_part(
+        &mut self,
+        session: u16,
+        runs: Runs,
+        cuts: Vec<PrintedCut>,
+        part: Part,
+        kept: Births,
+    ) -> Mem<Published>
+        requires { IsPublication self.old session (blocks_in runs.held) cuts.items (request_of_part part) kept }
+        ensures { IsPublished self.old self.new (λ h. half_publish h session (request_of_part part) cuts.items kept) (blocks_in runs.held) result }
+    {
+        match part {
+            Part::Settle(value) => self.publish_value(session, &runs, cuts, value, &kept),
+            Part::Commit(changes) => self.publish_commit(session, &runs, cuts, changes, kept),
+            _ => Ok(self.publish_nothing(runs)),
         }
     }
 
     // Publishes a call that flushes nothing: all blocks are left.
-    fn publish_nothing(&mut self, runs: &Runs) -> Mem<Published>
-        ensures { IsPublished self.old self.new (λ h. (h, rule.Done)) (blocks_in runs.now.held) result }
+    fn publish_nothing(&mut self, runs: Runs) -> Published
+        ensures { IsPublished {E = OutOfMemory} self.old self.new (λ h. (h, rule.Done)) (blocks_in runs.held) (Ok result) }
     {
         let _sound = self.stock.next_birth();
-        let unused = runs.copy()?;
-        Ok(Published {
+        Published {
             answer: Answer::Done,
-            unused,
-        })
+            unused: runs,
+        }
     }
 
     // Publishes a writing call with this result.
@@ -172,32 +169,25 @@ impl StoreHalf {
         &mut self,
         session: u16,
         runs: &Runs,
-        flush: &Flush,
-        value: &Map,
+        cuts: Vec<PrintedCut>,
+        value: Map,
+        kept: &Births,
     ) -> Mem<Published>
-        requires session { HasField self.old session }
-        requires births { BringsStocked self.old flush.now.ask }
-        requires prints { HasPrints flush.now }
-        requires value { request_of_part flush.now.ask.part ≡ rule.Settles value.now }
-        requires cuts { HasCutsOfRequest self.old.options flush.now }
-        requires placeable { ArePlaceable self.old (blocks_in runs.now.held) }
-        requires enough { AreEnough self.old (cuts_in self.old.options flush.now) (length (blocks_in runs.now.held)) }
-        ensures { IsPublished self.old self.new (λ h. half_publish h session (rule.Settles value.now) (cuts_in self.old.options flush.now) flush.now.ask.kept) (blocks_in runs.now.held) result }
+        requires { IsPublication self.old session (blocks_in runs.now.held) cuts.items (rule.Settles value) kept.now }
+        ensures { IsPublished self.old self.new (λ h. half_publish h session (rule.Settles value) cuts.items kept.now) (blocks_in runs.now.held) result }
     {
         let alloc = *self.sessions.allocator();
         let _sound = self.stock.next_birth();
-        let (plan, map) = plan_value(alloc, &self.stock, &self.options, flush, runs, value)?;
-        let twin = map.copy()?;
-        let births = with_births(alloc, &flush.ask.kept, &map)?;
+        let (plan, map) = plan_value(alloc, &self.stock, cuts, runs, value)?;
         let Plan {
-            firsts,
-            next: _,
             news,
             items,
             left,
+            ..
         } = plan;
-        drop(firsts);
         let unused = rest_of(alloc, left)?;
+        let twin = map.copy()?;
+        let births = with_births(alloc, kept, &map)?;
         let Some(room) = items.checked_add(births.as_slice().len() as u64) else {
             return Err(OutOfMemory);
         };
@@ -215,30 +205,17 @@ impl StoreHalf {
         &mut self,
         session: u16,
         runs: &Runs,
-        flush: &Flush,
-        changes: &ChangeList,
+        cuts: Vec<PrintedCut>,
+        changes: ChangeList,
+        kept: Births,
     ) -> Mem<Published>
-        requires session { HasField self.old session }
-        requires births { BringsStocked self.old flush.now.ask }
-        requires prints { HasPrints flush.now }
-        requires changes { request_of_part flush.now.ask.part ≡ rule.Commits changes.now }
-        requires cuts { HasCutsOfRequest self.old.options flush.now }
-        requires placeable { ArePlaceable self.old (blocks_in runs.now.held) }
-        requires enough { AreEnough self.old (cuts_in self.old.options flush.now) (length (blocks_in runs.now.held)) }
-        ensures { IsPublished self.old self.new (λ h. half_publish h session (rule.Commits changes.now) (cuts_in self.old.options flush.now) flush.now.ask.kept) (blocks_in runs.now.held) result }
+        requires { IsPublication self.old session (blocks_in runs.now.held) cuts.items (rule.Commits changes) kept }
+        ensures { IsPublished self.old self.new (λ h. half_publish h session (rule.Commits changes) cuts.items kept) (blocks_in runs.now.held) result }
     {
         let alloc = *self.sessions.allocator();
         let _sound = self.stock.next_birth();
         let has_ended = self.has_ended(session);
-        let (plan, settled) = plan_changes(
-            alloc,
-            &self.stock,
-            &self.options,
-            flush,
-            runs,
-            changes,
-        )?;
-        let kept = flush.ask.kept.copy()?;
+        let (plan, settled) = plan_changes(alloc, &self.stock, cuts, runs, changes)?;
         let (versions, notes) = (&self.versions, &self.notes);
         let commit = plan_commit(alloc, &self.options, versions, notes, self.floor, &settled)?;
         let Plan {
@@ -250,22 +227,12 @@ impl StoreHalf {
         } = plan;
         drop(firsts);
         let unused = rest_of(alloc, left)?;
-        let room = room_of(items, commit.births, kept.as_slice().len() as u64)?;
-        self.versions.make_room(settled.len() as u64)?;
-        self.notes.make_room(commit.displaced.len() as u64)?;
-        self.stock.make_room(room)?;
+        let (versions, notes, stock) = (&mut self.versions, &mut self.notes, &mut self.stock);
+        make_commit_room(versions, notes, stock, &settled, &commit, items, &kept)?;
         let (number, floor) = (commit.number, commit.floor);
-        place_all(&mut self.stock, news);
-        make_commit(
-            &mut self.versions,
-            &mut self.notes,
-            &mut self.stock,
-            settled,
-            commit,
-            session,
-            kept,
-        );
-        end_hold(&mut self.stock, session);
+        place_all(stock, news);
+        make_commit(versions, notes, stock, settled, commit, session, kept);
+        end_hold(stock, session);
         self.floor = floor;
         end_promise(&mut self.sessions, &mut self.promised, session);
         set_field(&mut self.sessions, session, false, has_ended);

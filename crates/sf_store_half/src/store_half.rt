@@ -1,6 +1,6 @@
 //! The store's half of the table.
-ghost use Rattle.std.specs.Prelude.{◌≡◌, ◌+◌, ◌-◌, ◌≤◌, ◌++◌, ℕ, map, length, take, min, IfOk};
-ghost use Rattle.std.specs.List.{list_all};
+ghost use Rattle.std.specs.Prelude.{◌≡◌, ◌+◌, ◌-◌, ◌≤◌, ◌++◌, ℕ, map, length, take, min, is_some, IfOk};
+ghost use Rattle.std.specs.List.{list_all, list_any};
 ghost use Rattle.sf_types.specs.Limits.{IsInRange};
 ghost use Rattle.sf_types.specs.Space.BlockRuns.{blocks_in};
 ghost use Rattle.sf_types.specs.Halves.Asks.{Half};
@@ -109,6 +109,13 @@ impl StoreHalf {
         ensures { result ≡ list_all (λ field. field.has_ended) self.now.sessions }
     {
         self.sessions.iter().all(|field| field.has_ended)
+    }
+
+    /// Whether a promise stands.
+    pub fn has_promise(&self) -> bool
+        ensures { result ≡ list_any (λ field. is_some field.promise) self.now.sessions }
+    {
+        self.sessions.iter().any(|field| field.promise.is_some())
     }
 
     /// The number of free blocks, which is one subtraction.

@@ -1,6 +1,10 @@
 //! The program, from the bytes that it reads to those that it writes.
 mod long_script;
+mod many_names;
+mod one_session;
+mod prefixes;
 mod refusals;
+mod rows;
 mod words;
 
 use sf_outside::{MemSink, MemSource, SureSink, SureSource};
@@ -14,14 +18,7 @@ const FIRST_PATH: &str =
     "1: insert a\n1: lock p a\n1: writeappend p \"abc\"\n1: length p\n1: read p 3 1\n1: commit\n";
 
 const FIRST_TRANSCRIPT: &str =
-    "transcript 1\norder 1 1 1 1 1 1 1\n1.1 ok\n1.2 ok\n1.3 ok\n1.4 3\n1.5 x616263\n1.6 commit 1\n1.7 end\nrow a 3 ba7816bf8f01cfea414140de5dae2223b00361a396177a9cb410ff61f20015ad\nnow 1\n";
-
-const EMPTY_TRANSCRIPT: &str = "transcript 1\norder 1\n1.1 end\nnow 0\n";
-
-const REFUSALS: &str = "1: insert a\n1: insert a\n1: lock p b\n1: read q 1 1\n";
-
-const REFUSED_TRANSCRIPT: &str =
-    "transcript 1\norder 1 1 1 1 1\n1.1 ok\n1.2 refused duplicate 1\n1.3 refused no-such-row\n1.4 refused unknown-locator\n1.5 end\nnow 0\n";
+    "transcript 1\norder 1 1 1 1 1 1+ 1 1\n1.1 ok\n1.2 ok\n1.3 ok\n1.4 3\n1.5 x616263\n1.6 commit 1\n1.7 end\nplace 1 3 ba7816bf8f01cfea414140de5dae2223b00361a396177a9cb410ff61f20015ad 0+1\nfree 1023\nrow a 3 ba7816bf8f01cfea414140de5dae2223b00361a396177a9cb410ff61f20015ad\nnow 1\n";
 
 const USAGE: &str = "usage: securefiles_cli play | run | check | bench SEED SESSIONS CALLS\n";
 
@@ -41,12 +38,10 @@ fn played(alloc: Global, script: Vec<u8>, room: usize) -> Result<(Status, SureSi
 }
 
 #[test]
-fn plays_scripts(rt: HostRuntime) -> Result<(), Fail> {
+fn words_say_what_is_done(rt: HostRuntime) -> Result<(), Fail> {
     let alloc = rt.alloc();
     let rows = [
         ("play", FIRST_PATH, Status::Done, FIRST_TRANSCRIPT),
-        ("play", "", Status::Done, EMPTY_TRANSCRIPT),
-        ("play", REFUSALS, Status::Done, REFUSED_TRANSCRIPT),
         (
             "play",
             "capacity 5\n",
@@ -78,8 +73,8 @@ fn ran_failing(alloc: Global, read: u64, write: u64) -> Result<(Status, MemSink)
     Ok((status, sink))
 }
 
-// The first path has 108 bytes, so that it is read in 12 calls, and its transcript, in pieces of 10 bytes, is written in
-// 18.
+// The first path has 108 bytes, so that it is read in 12 calls, and its transcript of 264 bytes, in pieces of 10 bytes, is
+// written in 27.
 #[test]
 fn faults_are_told(rt: HostRuntime) -> Result<(), Fail> {
     let alloc = rt.alloc();
@@ -88,7 +83,7 @@ fn faults_are_told(rt: HostRuntime) -> Result<(), Fail> {
         assert_eq!(rt; ended, Status::ReadFault, "{read}");
         assert_eq!(rt; sink.bytes().len(), 0, "{read}");
     }
-    for write in 1..19 {
+    for write in 1..28 {
         let (ended, sink) = ran_failing(alloc, 0, write)?;
         assert_eq!(rt; ended, Status::WriteFault, "{write}");
         assert_eq!(rt; sink.bytes().len(), (write as usize - 1) * 10, "{write}");
@@ -97,7 +92,7 @@ fn faults_are_told(rt: HostRuntime) -> Result<(), Fail> {
             "{write}"
         );
     }
-    let (ended, _) = ran_failing(alloc, 13, 19)?;
+    let (ended, _) = ran_failing(alloc, 13, 28)?;
     assert_eq!(rt; ended, Status::Done);
     Ok(())
 }

@@ -5,7 +5,7 @@ use sf_script_print::print;
 use std::test::*;
 
 // Texts, and how the scripts that they give are printed.
-static PRINTED: [(&[u8], &[u8]); 3] = [
+static PRINTED: [(&[u8], &[u8]); 4] = [
     (
         b"securefiles 1\nsessions 1\n",
         b"securefiles 1\nsessions 1\n",
@@ -17,6 +17,10 @@ static PRINTED: [(&[u8], &[u8]); 3] = [
     (
         b"securefiles 1\nsessions 1\n1: writeappend p \"aaa\"\n1: writeappend p \"aa\"\n",
         b"securefiles 1\nsessions 1\n1: writeappend p 3*x61\n1: writeappend p \"aa\"\n",
+    ),
+    (
+        b"securefiles 1\ncapacity 1024\ndedup off\nretention max\nsessions 2\n2: rollback to s\n1: setoptions p dedup on\nschedule 2 r\nschedule 1 shrink\n",
+        b"securefiles 1\ndedup off\nretention max\nsessions 2\n1: setoptions p dedup on\n2: rollback to s\nschedule 2 r 1 shrink\n",
     ),
 ];
 

@@ -1,7 +1,9 @@
 -- What always holds of a Book's fields (our own).
 use Rattle.std.specs.Prelude.{◌≡◌, ℕ, ◌≤◌, List, length, filter, is_some}
+use Rattle.sf_types.specs.declared.call.Call.{Call}
 use Rattle.sf_types.specs.declared.history.Entry.{Entry}
 use Rattle.sf_types.specs.Halves.Asks.{half_of}
+use Rattle.sf_versions.specs.declared.asks.Flush.{Flush}
 use Rattle.sf_stock.specs.Stocks.{places_of}
 use Rattle.sf_stock.specs.Stocks as stock
 use Rattle.sf_store_half.specs.declared.session_fields.SessionField.{SessionField}
@@ -21,6 +23,10 @@ book_of f history = record {
 -- The number of standing promises.
 abbrev pub promise_count : List SessionField → ℕ
 promise_count fields = length (filter (λ field. is_some field.promise) fields)
+
+-- A flush with this call in its ask.
+abbrev pub with_call : Flush → Call → Flush
+with_call flush c = record flush { ask = record flush.ask { call = c } }
 
 -- The sessions are counted; the Book is sound; its fields keep the half of the table after its history; its stock is sound; and its
 -- history has room for the cancel of each standing promise.

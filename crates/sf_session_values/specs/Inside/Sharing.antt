@@ -1,5 +1,5 @@
 -- How a row's working value and the locator that wrote it last share one value (our own).
-use Rattle.std.specs.Prelude.{◌≡◌, ℕ, Bool, true, false, List, map, Option, Some, None}
+use Rattle.std.specs.Prelude.{◌≡◌, ℕ, Bool, false, List, map, Option, Some, None}
 use Rattle.std.specs.Option.{option_map, option_map_or}
 use Rattle.sf_types.specs.Inside.NameMaps.{NameMap, is_same_name, get}
 use Rattle.sf_types.specs.Values.Marks.{Value}

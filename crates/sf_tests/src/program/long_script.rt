@@ -1,8 +1,13 @@
-//! A script of some thousand calls on five rows, whose replies follow from arithmetic.
+//! A script of some thousand calls on five rows, whose replies and places follow from arithmetic.
+use super::one_session::OneSession;
 use super::played;
 use sf_program::Status;
+use sf_types::{push_hex, sum_of};
 use std::alloc::Global;
 use std::test::*;
+
+// No equal contents share a place, and nothing is flushed before the commit.
+const OPTIONS: &str = "capacity 65536\ndedup off\ngather 1048576\n";
 
 const ROWS: u64 = 5;
 
@@ -10,6 +15,14 @@ const ROWS: u64 = 5;
 const PIECES: u64 = 400;
 
 const PIECE_BYTES: u64 = 640;
+
+// The most bytes of a content, and the bytes of a block.
+const CONTENT_BYTES: usize = 32_768;
+
+const BLOCK_BYTES: u64 = 512;
+
+// The blocks that five rows of 256,000 bytes leave: each has seven contents of 64 blocks and one of 52.
+const FREE_BLOCKS: u64 = 65_536 - 5 * (7 * 64 + 52);
 
 // The digests of what the rows hold at the end, as another program computed them.
 const SUMS: [&str; 5] = [
@@ -25,82 +38,41 @@ fn letter(row: u64, piece: u64) -> u8 {
     b'a' + ((row % 26 + piece % 26) % 26) as u8
 }
 
-// A script, and the order and the replies that are due.
-#[derive(Drop)]
-struct Play {
-    alloc: Global,
-    script: Vec<u8>,
-    order: Vec<u8>,
-    replies: Vec<u8>,
-    calls: u64,
+// What a row holds.
+fn row_bytes(alloc: Global, row: u64) -> Result<Vec<u8>, Fail> {
+    let mut bytes = Vec::new(alloc);
+    for piece in 0..PIECES {
+        let letters = vec![in alloc; letter(row, piece + 1); PIECE_BYTES as usize]?;
+        bytes.extend_from_slice(&letters)?;
+    }
+    Ok(bytes)
 }
 
-impl Play {
-    fn new(alloc: Global) -> Result<Play, Fail> {
-        Ok(Play {
-            alloc,
-            script: b"securefiles 1\nsessions 1\n".to_vec(alloc)?,
-            order: b"transcript 1\norder".to_vec(alloc)?,
-            replies: Vec::new(alloc),
-            calls: 0,
-        })
-    }
-
-    // One more reply, and its token in the order.
-    fn reply(&mut self, reply: &str) -> Result<(), Fail> {
-        self.calls = self.calls.saturating_add(1);
-        let number = self.calls;
-        let line = format!(in self.alloc; "1.{number} {reply}\n")?;
-        self.replies.extend_from_slice(line.as_bytes())?;
-        self.order.extend_from_slice(b" 1")?;
-        Ok(())
-    }
-
-    // One more call, and the reply that it is due.
-    fn call(&mut self, call: &str, reply: &str) -> Result<(), Fail> {
-        let line = format!(in self.alloc; "1: {call}\n")?;
-        self.script.extend_from_slice(line.as_bytes())?;
-        self.reply(reply)
-    }
-
-    // One more piece of a row, and a look at the row's length.
-    fn append(&mut self, row: u64, piece: u64) -> Result<(), Fail> {
-        let words = format!(in self.alloc; "1: writeappend p{row} \"")?;
-        self.script.extend_from_slice(words.as_bytes())?;
-        let bytes = vec![in self.alloc; letter(row, piece); PIECE_BYTES as usize]?;
-        self.script.extend_from_slice(&bytes)?;
-        self.script.extend_from_slice(b"\"\n")?;
-        self.reply("ok")?;
-        let length = format!(in self.alloc; "length p{row}")?;
-        let bytes = piece.saturating_mul(PIECE_BYTES);
-        self.call(&length, &format!(in self.alloc; "{bytes}")?)
-    }
-
-    // The transcript that is due.
-    fn transcript(&self) -> Result<Vec<u8>, Fail> {
-        let mut text = self.order.clone()?;
-        text.extend_from_slice(b"\n")?;
-        text.extend_from_slice(&self.replies)?;
-        let bytes = PIECES * PIECE_BYTES;
-        for (row, sum) in SUMS.iter().enumerate() {
-            let line = format!(in self.alloc; "row r{row} {bytes} {sum}\n")?;
-            text.extend_from_slice(line.as_bytes())?;
-        }
-        text.extend_from_slice(b"now 1\n")?;
-        Ok(text)
-    }
+// One more piece of a row, and a look at the row's length.
+fn append(alloc: Global, play: &mut OneSession, row: u64, piece: u64) -> Result<(), Fail> {
+    let count = PIECE_BYTES;
+    let byte = letter(row, piece);
+    play.call(
+        &format!(in alloc; "writeappend p{row} {count}*x{byte:02x}")?,
+        "ok",
+    )?;
+    let length = piece.saturating_mul(PIECE_BYTES);
+    play.call(
+        &format!(in alloc; "length p{row}")?,
+        &format!(in alloc; "{length}")?,
+    )
 }
 
 // Each row gets its pieces by turns, and then the last byte of its first piece and the first of its second are read.
-fn many_calls(alloc: Global) -> Result<Play, Fail> {
-    let mut play = Play::new(alloc)?;
+fn many_calls(alloc: Global) -> Result<OneSession, Fail> {
+    let mut play = OneSession::new(alloc, OPTIONS)?;
     for row in 0..ROWS {
         play.call(&format!(in alloc; "insert r{row}")?, "ok")?;
         play.call(&format!(in alloc; "lock p{row} r{row}")?, "ok")?;
     }
     for piece in 0..PIECES {
         for row in 0..ROWS {
-            play.append(row, piece + 1)?;
+            append(alloc, &mut play, row, piece + 1)?;
         }
     }
     for row in 0..ROWS {
@@ -109,17 +81,52 @@ fn many_calls(alloc: Global) -> Result<Play, Fail> {
         let read = format!(in alloc; "read p{row} 2 {PIECE_BYTES}")?;
         play.call(&read, &format!(in alloc; "x{first:02x}{second:02x}")?)?;
     }
+    play.promise()?;
     play.call("commit", "commit 1")?;
     play.reply("end")?;
     Ok(play)
 }
 
+// The contents of all rows stand one behind the other.
+fn push_places(alloc: Global, text: &mut Vec<u8>) -> Result<(), Fail> {
+    let mut birth = 1u64;
+    let mut first = 0u64;
+    for row in 0..ROWS {
+        let bytes = row_bytes(alloc, row)?;
+        for content in bytes.chunks(CONTENT_BYTES) {
+            let length = content.len() as u64;
+            let count = length.div_ceil(BLOCK_BYTES);
+            text.extend_from_slice(format!(in alloc; "place {birth} {length} ")?.as_bytes())?;
+            push_hex(text, sum_of(content).as_bytes())?;
+            text.extend_from_slice(format!(in alloc; " {first}+{count}\n")?.as_bytes())?;
+            birth = birth.saturating_add(1);
+            first = first.saturating_add(count);
+        }
+    }
+    Ok(())
+}
+
+// What is told of the end.
+fn push_end(alloc: Global, text: &mut Vec<u8>) -> Result<(), Fail> {
+    push_places(alloc, text)?;
+    text.extend_from_slice(format!(in alloc; "free {FREE_BLOCKS}\n")?.as_bytes())?;
+    let length = PIECES * PIECE_BYTES;
+    for (row, sum) in SUMS.iter().enumerate() {
+        let line = format!(in alloc; "row r{row} {length} {sum}\n")?;
+        text.extend_from_slice(line.as_bytes())?;
+    }
+    text.extend_from_slice(b"now 1\n")?;
+    Ok(())
+}
+
 #[test]
 fn plays_a_long_script(rt: HostRuntime) -> Result<(), Fail> {
-    let play = many_calls(rt.alloc())?;
-    let transcript = play.transcript()?;
-    let (status, sink) = played(rt.alloc(), play.script.clone()?, 100_000)?;
+    let alloc = rt.alloc();
+    let play = many_calls(alloc)?;
+    let mut wanted = play.transcript()?;
+    push_end(alloc, &mut wanted)?;
+    let (status, sink) = played(alloc, play.script()?, 100_000)?;
     assert_eq!(rt; status, Status::Done);
-    assert!(rt; sink.bytes() == transcript.as_slice());
+    assert!(rt; sink.bytes() == wanted.as_slice());
     Ok(())
 }

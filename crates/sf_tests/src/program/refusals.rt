@@ -24,7 +24,7 @@ static THIRD_LINES: [(&[u8], Option<&str>); 35] = [
     (b"schedule 3\n", Some("session")),
     (b"schedule \n", Some("session")),
     (b"schedule\n", Some("form")),
-    (b"schedule r 1 shrink\n", Some("later")),
+    (b"schedule r 1 shrink\n", None),
     (b"1:\n", Some("form")),
     (b"1:  commit\n", Some("form")),
     (b"1: commit \n", Some("form")),
@@ -43,19 +43,26 @@ static THIRD_LINES: [(&[u8], Option<&str>); 35] = [
     ),
     (b"1: writeappend p x6162\n", None),
     (b"1: writeappend p 3*x61\n", None),
-    (b"1: delete a\n", Some("later")),
-    (b"1: rollback\n", Some("later")),
+    (b"1: delete a\n", None),
+    (b"1: rollback\n", None),
 ];
 
 // Whole texts, and the line and the reason of their fault.
-static TEXTS: [(&[u8], u32, &str); 9] = [
+static TEXTS: [(&[u8], u32, &str); 12] = [
     (b"", 1, "short"),
     (b"securefiles 1\n", 2, "short"),
     (b"securefiles 1", 1, "bytes"),
     (b"sessions 1\n", 1, "place"),
     (b"securefiles 2\n", 1, "form"),
-    (b"securefiles 1\ncapacity 5\n", 2, "later"),
-    (b"securefiles 1\nsessions 2\n", 2, "later"),
+    (b"securefiles 1\ncapacity 0\n", 2, "limit"),
+    (b"securefiles 1\nsessions 17\n", 2, "limit"),
+    (b"securefiles 1\ngather 512\ncapacity 5\n", 3, "place"),
+    (b"securefiles 1\nsessions 2\nschedule 3\n", 3, "session"),
+    (
+        b"securefiles 1\nsessions 2\nschedule 2\n1: commit\n",
+        4,
+        "place",
+    ),
     (b"securefiles 1\ncapacity 05\n", 2, "form"),
     (b"securefiles 1\n1: commit\n", 2, "place"),
 ];

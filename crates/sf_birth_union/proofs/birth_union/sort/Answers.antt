@@ -6,6 +6,6 @@ pub returns : goal.returns
 returns c =
     let is = dedup_is _ _ _ c.dedup.ensures.filtered in
     record {
-      births = rw is (births_from_sorted _ _ c.sort_unstable.ensures.permutation c.sort_unstable.ensures.sorted);
-      rising = rw is (rising_from_sorting _ c.sort_unstable.ensures.sorted);
+      births = rw is (births_from_sorted _ _ c.in_ok-sort.ensures.permutation c.in_ok-sort.ensures.sorted);
+      rising = rw is (rising_from_sorting _ c.in_ok-sort.ensures.sorted);
     }

@@ -6,8 +6,8 @@ use Rattle.sf_script.specs.Inside.Views.{text_line}
 use Rattle.sf_script.proofs.StepLemmas.{line_goes_on, lines_end, at_end}
 use Rattle.sf_script.proofs.parser.script_of_lines.Goals as goal
 
-pub returns-in-Err-Refused-clause-script : goal.returns-in-Err-Refused-clause-script
-returns-in-Err-Refused-clause-script c =
+pub returns-in-Err-Refused-clause-exact : goal.returns-in-Err-Refused-clause-exact
+returns-in-Err-Refused-clause-exact c =
     let stop : next_reading c.loop-line.reading (text_line c.in-Some.line) ≡ Err c.in-Err-Refused.reason = rw c.in-Err-Refused.field-0-is at c.in-Err-Refused.ensures in
     let wrong = lines_end c.loop-line.number c.loop-line.reading c.in-Err-Refused.reason (text_line c.in-Some.line) (lines_of c.in-Some.after.now) stop in
     let here = ap (script_from c.loop-line.number c.loop-line.reading) c.in-Some.ensures.lines in
@@ -19,7 +19,7 @@ loop-line-preserved c =
     let here = ap (script_from c.loop-line.number c.loop-line.reading) c.in-Some.ensures.lines in
     (sym (here ∙ right) ∙ c.loop-line.invariant.0, omega (arith, c.in-Some.ensures.shorter))
 
-pub returns-clause-script : goal.returns-clause-script
-returns-clause-script c =
+pub returns-clause-exact : goal.returns-clause-exact
+returns-clause-exact c =
     let here = ap (script_from c.loop-line.number c.loop-line.reading) c.in_default.ensures.lines in
-    c.script_at_end.ensures.script ∙ sym (here ∙ at_end c.loop-line.number c.loop-line.reading) ∙ c.loop-line.invariant.0
+    c.script_at_end.ensures.exact ∙ sym (here ∙ at_end c.loop-line.number c.loop-line.reading) ∙ c.loop-line.invariant.0

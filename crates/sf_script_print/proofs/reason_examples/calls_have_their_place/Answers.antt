@@ -8,10 +8,9 @@ use Rattle.sf_script_calls.specs.CallTable.{call_form, form_behind, reading_form
 use Rattle.sf_script.specs.OptionLines.{option_rank, option_of}
 use Rattle.sf_script.specs.Schedules.{session_number, session_of, turn_of, are_turns}
 use Rattle.sf_script.specs.LineForms.{header_line, option_line, call_line, schedule_line}
-use Rattle.sf_script.specs.Provisional.Lines.{is_later}
 use Rattle.sf_script.specs.Reasons.{has_wrong_bytes, is_misplaced, names_no_session, form_passes_limit}
 use Rattle.sf_script_print.proofs.reason_examples.calls_have_their_place.Goals as goal
 
 pub returns : goal.returns
-unfolding word_at is_word number_of payload_of text_of hex_of copies_of star_byte_of locator_at number_at number_payload_of row_form locator_payload_form locator_number_payload_form call_form form_behind reading_form writing_form fragment_form option_rank option_of session_number session_of turn_of are_turns header_line option_line call_line schedule_line is_later has_wrong_bytes is_misplaced names_no_session form_passes_limit
+unfolding word_at is_word number_of payload_of text_of hex_of copies_of star_byte_of locator_at number_at number_payload_of row_form locator_payload_form locator_number_payload_form call_form form_behind reading_form writing_form fragment_form option_rank option_of session_number session_of turn_of are_turns header_line option_line call_line schedule_line has_wrong_bytes is_misplaced names_no_session form_passes_limit
 returns c = record { before_sessions = refl; behind_option = refl; behind_schedule = refl; of_no_session = refl; between = refl }

@@ -1,9 +1,9 @@
-use Rattle.std.proofs.Common.{◌≡◌, false, Some, None, sym, ap, ◌∙◌}
+use Rattle.std.proofs.Common.{◌≡◌, false, Some, sym, ap, ◌∙◌}
 use Rattle.std.specs.Option.{option_copied, option_map_or}
 use Rattle.std.specs.Cmp.Lexicographic.{texts_ties}
-use Rattle.sf_types.specs.Inside.NameMaps.{is_same_name, get}
+use Rattle.sf_types.specs.Inside.NameMaps.{get}
 use Rattle.sf_session_values.specs.declared.working.Working.TheVariants as working
-use Rattle.sf_session_values.specs.Inside.Sharing.{is_through, is_row_value}
+use Rattle.sf_session_values.specs.Inside.Sharing.{is_through}
 use Rattle.sf_session_values.proofs.values.is_row_value.Goals as goal
 
 pub returns-in-Some-Through : goal.returns-in-Some-Through

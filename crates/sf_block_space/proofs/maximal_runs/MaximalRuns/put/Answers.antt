@@ -55,7 +55,7 @@ returns-then-precedes c =
       capacity = refl;
       order = put.order;
       blocks = put.gains;
-      more = put.size;
+      more = omega (arith, put.size, c.requires.some);
       room = omega (arith, c.remove-next.ensures.capacity, c.remove-next.ensures.len, length-set c.remove-next.new.self.items (c.offset_of-at.result - 1) (joined (joined c.index-last.result.now c.args.run) c.remove-next.result));
     })
 
@@ -90,7 +90,7 @@ returns-then-follows c =
       capacity = refl;
       order = put.order;
       blocks = put.gains;
-      more = put.size;
+      more = omega (arith, put.size, c.requires.some);
       room = ap (λ k. vec_capacity c.self.inside.runs - vec_len c.self.inside.runs + k) (length-set c.self.inside.runs.items (c.offset_of-at.result - 1) (joined c.index-last.result.now c.args.run));
     })
 
@@ -125,7 +125,7 @@ returns-then-precedes-2 c =
       capacity = refl;
       order = put.order;
       blocks = put.gains;
-      more = put.size;
+      more = omega (arith, put.size, c.requires.some);
       room = ap (λ k. vec_capacity c.self.inside.runs - vec_len c.self.inside.runs + k) (length-set c.self.inside.runs.items c.offset_of-at.result (joined c.args.run c.index-next.result.now));
     })
 
@@ -151,6 +151,6 @@ returns c =
       capacity = refl;
       order = put.order;
       blocks = put.gains;
-      more = put.size;
+      more = omega (arith, put.size, c.requires.some);
       room = search rules;
     })

@@ -12,4 +12,4 @@ invariant_of-result c =
     let room = subst (λ (p : ScriptParts). passes_call_limit p (payload_length c.args.call) ≡ false) (sym c.self.view_is) c.requires.room in
     let within : c.args.session - 1 < length c.self.inside.calls.items = omega (arith, c.self.invariant.script.one_list_each) in
     let read = get_or_read c.self.inside.calls.items (c.args.session - 1) c.index_mut-list.result.now within c.index_mut-list.ensures.value [] in
-    rw (c.in_ok-push.ensures.ok, read, c.payload_length-length.ensures) (with_call_is_draft _ _ _ c.args.session c.args.call c.self.invariant c.requires.low high c.requires.stands room)
+    rw (c.in_ok-push.ensures.ok, read, c.payload_length-length.ensures) (with_call_is_draft _ _ _ c.args.session c.args.call c.self.invariant c.requires.low high c.requires.no_end room)

@@ -1,4 +1,4 @@
-use Rattle.std.proofs.Common.{◌≡◌, sym, ap, ◌∙◌}
+use Rattle.std.proofs.Common.{ap, ◌∙◌}
 use Rattle.sf_types.specs.Calls.Savepoints.{is_since, with_losses}
 use Rattle.sf_session_values.proofs.SharingLemmas.{same_view, unshared-rows, unshared-shared}
 use Rattle.sf_session_values.proofs.values.SessionValues.roll_back_to.Goals as goal

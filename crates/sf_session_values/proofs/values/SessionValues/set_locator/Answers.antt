@@ -1,7 +1,5 @@
-use Rattle.std.proofs.Common.{◌≡◌, ℕ, Bool, true, false, List, Option, Some, None, refl, sym, ap, subst, ◌∙◌}
-use Rattle.sf_types.specs.Inside.NameMaps.{NameMap, is_same_name, get, with_entry, without_entry}
-use Rattle.sf_types.specs.Table.Parts.{Locator}
-use Rattle.sf_session_values.specs.declared.working.Working.{Working}
+use Rattle.std.proofs.Common.{◌≡◌, true, false, Some, sym, ap, subst, ◌∙◌}
+use Rattle.sf_types.specs.Inside.NameMaps.{get, with_entry}
 use Rattle.sf_session_values.specs.declared.working.Working.TheVariants as working
 use Rattle.sf_session_values.specs.Inside.Sharing.{rows_by, is_row_value, AreShared}
 use Rattle.sf_session_values.proofs.SharingLemmas.{same_view, alike_with, not_row_value, taken-rows, taken-shared, left-rows, left-shared}

@@ -1,9 +1,7 @@
-use Rattle.std.proofs.Common.{◌≡◌, ℕ, Bool, true, false, cond, List, [], Option, Some, None, refl, sym, ap, subst, ◌∙◌}
-use Rattle.std.specs.Option.{option_copied, option_map, option_map_or}
-use Rattle.sf_types.specs.Inside.NameMaps.{NameMap, is_same_name, get, with_entry, without_entry}
-use Rattle.sf_types.specs.Table.Parts.{Locator}
-use Rattle.sf_session_values.specs.Inside.Sharing.{value_by, rows_by, is_row_value, is_through}
-use Rattle.sf_session_values.specs.Inside.Sharing.{AreShared, own_value}
+use Rattle.std.proofs.Common.{sym, ap, subst, ◌∙◌}
+use Rattle.sf_types.specs.Inside.NameMaps.{with_entry}
+use Rattle.sf_session_values.specs.Inside.Sharing.{rows_by}
+use Rattle.sf_session_values.specs.Inside.Sharing.{AreShared}
 use Rattle.sf_session_values.proofs.SharingLemmas.{same_view, rows_set, shared_set}
 use Rattle.sf_session_values.proofs.values.SessionValues.set_row.Goals as goal
 

@@ -1,8 +1,7 @@
-use Rattle.std.proofs.Common.{◌≡◌, ℕ, Bool, true, false, cond, List, [], Option, Some, None, refl, sym, ap, subst, ◌∙◌}
-use Rattle.std.specs.Option.{option_copied, option_map, option_map_or}
-use Rattle.sf_types.specs.Inside.NameMaps.{NameMap, is_same_name, get, with_entry, without_entry}
-use Rattle.sf_types.specs.Table.Parts.{Locator}
-use Rattle.sf_session_values.specs.Inside.Sharing.{value_by, rows_by, is_row_value, is_through}
+use Rattle.std.proofs.Common.{Some, sym, ap, ◌∙◌}
+use Rattle.std.specs.Option.{option_copied, option_map}
+use Rattle.sf_types.specs.Inside.NameMaps.{get}
+use Rattle.sf_session_values.specs.Inside.Sharing.{value_by}
 use Rattle.sf_session_values.proofs.SharingLemmas.{get-rows}
 use Rattle.sf_session_values.proofs.values.SessionValues.working.Goals as goal
 

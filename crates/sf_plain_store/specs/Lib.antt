@@ -1,0 +1,4 @@
+pub mod Inside
+pub mod Plays
+pub mod Stores
+pub mod Turns
